@@ -1,0 +1,2 @@
+pub mod DeCasteljau
+pub mod Bernstein
