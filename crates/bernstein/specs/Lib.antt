@@ -1,2 +1,3 @@
+pub mod Affine
 pub mod DeCasteljau
 pub mod Bernstein
