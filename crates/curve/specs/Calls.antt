@@ -1,0 +1,40 @@
+-- The answer of each public call, for every input: a refusal with zeros, or the result.
+-- Assumes nothing.
+use Prim.Native.Nat.{ℕ}
+use mathlib.Core.Bool.{cond}
+use lib.Dec.{eqb}
+use Rattle.curve.specs.declared.Curve.{Curve}
+use Rattle.curve.specs.declared.Refusal.{Refusal}
+use Rattle.curve.specs.declared.Evaluation.{Evaluation}
+use Rattle.curve.specs.declared.Subdivision.{Subdivision}
+use Rattle.curve.specs.declared.Enclosure.{Enclosure}
+use Rattle.curve.specs.Rect.{zeroRect}
+use Rattle.curve.specs.Curve.{zeroCurve, loadOf, leftOf, rightOf, boundsOf}
+use Rattle.curve.specs.Ohms.{ohmsOf, zeroOhms}
+use Rattle.curve.specs.Refusals.{_orElse_, curveRefusal, parameterRefusal}
+
+-- refusals 1 to 5
+unfoldable pub callRefusal : Curve → ℕ → ℕ → Refusal
+callRefusal c num den = curveRefusal c orElse parameterRefusal num den
+
+-- the reading
+unfoldable pub evaluated : Curve → ℕ → ℕ → Evaluation
+evaluated c num den =
+    let r = callRefusal c num den in
+    cond (eqb (r .number) 0)
+    (record { refusal = r; load = loadOf c num den; ohms = ohmsOf (loadOf c num den) })
+    (record { refusal = r; load = zeroRect; ohms = zeroOhms })
+
+-- the cut
+unfoldable pub subdivided : Curve → ℕ → ℕ → Subdivision
+subdivided c num den =
+    let r = callRefusal c num den in
+    cond (eqb (r .number) 0)
+    (record { refusal = r; left = leftOf c num den; right = rightOf c num den })
+    (record { refusal = r; left = zeroCurve; right = zeroCurve })
+
+-- the span
+unfoldable pub bounded : Curve → Enclosure
+bounded c =
+    let r = curveRefusal c in
+    cond (eqb (r .number) 0) (record { refusal = r; rect = boundsOf c }) (record { refusal = r; rect = zeroRect })

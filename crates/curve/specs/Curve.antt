@@ -1,0 +1,68 @@
+-- Curves and what is computed from an accepted one: the load, both pieces, the raised curve and the bounds.
+-- Control points are read by number, and those past the degree play no part.
+-- Assumes nothing.
+use mathlib.Core.Path.{_≡_}
+use mathlib.Core.List.{List, [], _∷_}
+use mathlib.Core.Bool.{cond}
+use Prim.Native.Nat.{ℕ, zero, suc, _+_, _-_, _≤_}
+use lib.Dec.{leb}
+use lib.ListN.{getD}
+use Rattle.bernstein.specs.DeCasteljau as DeCasteljau
+use Rattle.curve.specs.declared.Rect.{Rect}
+use Rattle.curve.specs.declared.Curve.{Curve}
+use Rattle.curve.specs.Limits.{places}
+use Rattle.curve.specs.Rect.{zeroRect, affineRect, hull}
+
+-- control point k
+abbrev pub point : Curve → ℕ → Rect
+point c k = getD (c .points) k zeroRect
+
+-- f 0, f 1, .. f (m − 1)
+unfoldable pub tabulate {ℓ} : {A : Type ℓ} → ℕ → (ℕ → A) → List A
+tabulate zero f = []
+tabulate (suc m) f = f 0 ∷ tabulate m (λ k. f (suc k))
+
+-- a record's places: f 0 to f n, and zero past n
+unfoldable pub pointsOf : ℕ → (ℕ → Rect) → List Rect
+pointsOf n f = tabulate places (λ k. cond (leb k n) (f k) zeroRect)
+
+-- the curve of degree n with the control points f 0 to f n
+abbrev pub curveOf : ℕ → (ℕ → Rect) → Curve
+curveOf n f = record { degree = n; points = pointsOf n f }
+
+abbrev pub zeroCurve : Curve
+zeroCurve = curveOf 0 (λ k. zeroRect)
+
+-- two curves are equal if their degrees and their control points 0 to n are
+pub record SameCurve (c e : Curve) : Type 0 where
+  pub degrees : c .degree ≡ e .degree
+  pub controls : (k : ℕ) → k ≤ c .degree → point c k ≡ point e k
+
+-- the map of neighbours at the parameter num/den
+abbrev pub mapAt : ℕ → ℕ → Rect → Rect → Rect
+mapAt num den = affineRect (den - num) num den
+
+-- the load at num/den, and the control points of the two pieces there, off one table (000, equations 18 and 19)
+unfoldable pub loadOf : Curve → ℕ → ℕ → Rect
+loadOf c num den = DeCasteljau.value (mapAt num den) (point c) (c .degree)
+
+unfoldable pub leftOf : Curve → ℕ → ℕ → Curve
+leftOf c num den = curveOf (c .degree) (DeCasteljau.left (mapAt num den) (point c))
+
+unfoldable pub rightOf : Curve → ℕ → ℕ → Curve
+rightOf c num den = curveOf (c .degree) (DeCasteljau.right (mapAt num den) (point c) (c .degree))
+
+-- control point k of the curve of degree n + 1: (k × P(k−1) + (n + 1 − k) × P(k)) / (n + 1); at k = 0 and k = n + 1 the absent point has factor 0
+unfoldable pub raisedPoint : ℕ → (ℕ → Rect) → ℕ → Rect
+raisedPoint n P k = affineRect k (n + 1 - k) (n + 1) (P (k - 1)) (P k)
+
+unfoldable pub raisedOf : Curve → Curve
+raisedOf c = curveOf (c .degree + 1) (raisedPoint (c .degree) (point c))
+
+-- the least rectangle that holds P 0 to P n
+unfoldable pub hullTo : (ℕ → Rect) → ℕ → Rect
+hullTo P zero = P 0
+hullTo P (suc n) = hull (hullTo P n) (P (suc n))
+
+unfoldable pub boundsOf : Curve → Rect
+boundsOf c = hullTo (point c) (c .degree)

@@ -1,0 +1,50 @@
+-- What the functions inside the crate ask of each other. No public contract cites it.
+-- Assumes nothing.
+use mathlib.Core.Path.{_≡_}
+use mathlib.Core.List.{List}
+use mathlib.Core.Bool.{Bool, true, false}
+use Prim.Native.Nat.{ℕ, suc, _+_, _≤_, _<_}
+use lib.IntN.{ℤ, pos, negℤ}
+use lib.Signed.{_≤ℤ_}
+use lib.ListN.{getD}
+use Rattle.rational.specs.Rounding.{Rounding, down, up}
+use Rattle.curve.specs.declared.Interval.{Interval}
+use Rattle.curve.specs.declared.Rect.{Rect}
+use Rattle.curve.specs.declared.Curve.{Curve}
+use Rattle.curve.specs.Limits.{maxDegree, maxSide, maxDen}
+use Rattle.curve.specs.Rect.{Coordinate, end, along, zeroRect}
+use Rattle.curve.specs.Curve.{point}
+
+-- a side within its range
+pub record Side (z : ℤ) : Type 0 where
+  pub from : negℤ (pos maxSide) ≤ℤ z
+  pub to : z ≤ℤ pos maxSide
+
+-- both ends within their range
+pub record Sides (i : Interval) : Type 0 where
+  pub at : (r : Rounding) → Side (end r i)
+
+-- all four sides within their range
+pub record Held (p : Rect) : Type 0 where
+  pub at : (x : Coordinate) → Sides (along x p)
+
+-- two factors and the divisor that they add up to
+pub record Factors (s t den : ℕ) : Type 0 where
+  pub total : s + t ≡ den
+  pub positive : 0 < den
+  pub small : den ≤ maxDen
+
+abbrev pub roundingOf : Bool → Rounding
+roundingOf true = up
+roundingOf false = down
+
+-- what the table asks of a curve
+pub record Ready (c : Curve) : Type 0 where
+  pub some : 1 ≤ c .degree
+  pub few : c .degree ≤ maxDegree
+  pub held : (k : ℕ) → k ≤ c .degree → Held (point c k)
+
+-- one stage in place: the first m entries are maps of neighbours, and the others are kept
+pub record Staged (m : ℕ) (map : Rect → Rect → Rect) (before after : List Rect) : Type 0 where
+  pub mapped : (k : ℕ) → k < m → getD after k zeroRect ≡ map (getD before k zeroRect) (getD before (suc k) zeroRect)
+  pub kept : (k : ℕ) → m ≤ k → getD after k zeroRect ≡ getD before k zeroRect

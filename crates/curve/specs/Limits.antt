@@ -1,0 +1,23 @@
+-- The limits of document 01, named once.
+-- Assumes nothing.
+use Prim.Native.Nat.{ℕ}
+
+-- the highest degree of a curve
+abbrev pub maxDegree : ℕ
+maxDegree = 8
+
+-- the places of a curve's record
+abbrev pub places : ℕ
+places = 9
+
+-- the largest side, in steps
+abbrev pub maxSide : ℕ
+maxSide = 16777216
+
+-- the largest denominator of a parameter
+abbrev pub maxDen : ℕ
+maxDen = 65536
+
+-- the steps in an ohm
+abbrev pub stepsPerOhm : ℕ
+stepsPerOhm = 1024

@@ -1,0 +1,25 @@
+// Sides in single-precision ohms, with nothing lost: a side is at most 2^24 steps, and a step is a power of two of an ohm.
+ghost use mathlib.Core.Path.{_≡_};
+ghost use Rattle.curve.specs.Inner.{Side, Held};
+ghost use Rattle.curve.specs.Ohms.{ohm, ohmsOf};
+
+use crate::{Ohms, Rect};
+
+fn ohms_of_side(side: i32) -> f32
+    requires { ⌜ Side side ⌝ }
+    ensures { λ r. ⌜ r ≡ ohm side ⌝ }
+{
+    side as f32 / 1024.0
+}
+
+pub fn ohms_of(p: Rect) -> Ohms
+    requires { ⌜ Held p ⌝ }
+    ensures { λ r. ⌜ r ≡ ohmsOf p ⌝ }
+{
+    Ohms {
+        rlow: ohms_of_side(p.resistance.low),
+        rhigh: ohms_of_side(p.resistance.high),
+        xlow: ohms_of_side(p.reactance.low),
+        xhigh: ohms_of_side(p.reactance.high),
+    }
+}

@@ -1,0 +1,159 @@
+// The load of an antenna across a band as an interval Bézier curve: records, and the calls that evaluate, subdivide and bound it.
+// Every call takes any record and any numbers, answers a refusal for bad input, and equals its definition in specs/Calls.antt.
+ghost use mathlib.Core.Path.{_≡_};
+ghost use Rattle.curve.specs.Calls.{evaluated, subdivided, bounded};
+
+mod affine;
+mod checks;
+mod hull;
+mod display;
+mod table;
+
+use checks::{call_refusal, curve_refusal};
+use hull::hull_of;
+use display::ohms_of;
+use table::{table_of, zero_rect};
+
+// The highest degree of a curve.
+pub const MAX_DEGREE: u32 = 8;
+
+// The places of a curve's record: one more than the highest degree.
+pub const PLACES: usize = 9;
+
+// The least and the largest side, in steps of 1/1,024 ohm.
+pub const MIN_SIDE: i32 = -16777216;
+pub const MAX_SIDE: i32 = 16777216;
+
+// The largest denominator of a parameter.
+pub const MAX_DEN: u32 = 65536;
+
+// The values from low to high, in steps, both ends included.
+pub struct Interval {
+    pub low: i32,
+    pub high: i32,
+}
+
+// A rectangle of loads.
+pub struct Rect {
+    pub resistance: Interval,
+    pub reactance: Interval,
+}
+
+// A curve of a degree n, whose control points are the rectangles 0 to n. Places past n are not read.
+pub struct Curve {
+    pub degree: u32,
+    pub points: [Rect; PLACES],
+}
+
+// A refusal's number and place. Number 0 says that the call was accepted.
+pub struct Refusal {
+    pub number: u32,
+    pub place: usize,
+}
+
+// A rectangle in ohms: resistance (R) and reactance (X), low and high.
+pub struct Ohms {
+    pub rlow: f32,
+    pub rhigh: f32,
+    pub xlow: f32,
+    pub xhigh: f32,
+}
+
+// The answer of evaluate.
+pub struct Evaluation {
+    pub refusal: Refusal,
+    pub load: Rect,
+    pub ohms: Ohms,
+}
+
+// The answer of subdivide.
+pub struct Subdivision {
+    pub refusal: Refusal,
+    pub left: Curve,
+    pub right: Curve,
+}
+
+// The answer of bounds.
+pub struct Enclosure {
+    pub refusal: Refusal,
+    pub rect: Rect,
+}
+
+// The load at num/den: the last rectangle of de Casteljau's table, every stage rounded outward; refusals 1 to 5.
+pub fn evaluate(c: Curve, num: u32, den: u32) -> Evaluation
+    ensures { λ r. ⌜ r ≡ evaluated c num den ⌝ }
+{
+    let refusal = call_refusal(c, num, den);
+    if refusal.number != 0 {
+        return Evaluation {
+            refusal,
+            load: zero_rect(),
+            ohms: Ohms {
+                rlow: 0.0,
+                rhigh: 0.0,
+                xlow: 0.0,
+                xhigh: 0.0,
+            },
+        };
+    }
+    let table = table_of(c, num, den);
+    let last = table.right;
+    let load = last[0];
+    Evaluation {
+        refusal,
+        load,
+        ohms: ohms_of(load),
+    }
+}
+
+// The two pieces of the curve at num/den, from the same table; refusals 1 to 5.
+pub fn subdivide(c: Curve, num: u32, den: u32) -> Subdivision
+    ensures { λ r. ⌜ r ≡ subdivided c num den ⌝ }
+{
+    let refusal = call_refusal(c, num, den);
+    if refusal.number != 0 {
+        let none = [zero_rect(); PLACES];
+        return Subdivision {
+            refusal,
+            left: Curve {
+                degree: 0,
+                points: none,
+            },
+            right: Curve {
+                degree: 0,
+                points: none,
+            },
+        };
+    }
+    let table = table_of(c, num, den);
+    let left = table.left;
+    let right = table.right;
+    Subdivision {
+        refusal,
+        left: Curve {
+            degree: c.degree,
+            points: left,
+        },
+        right: Curve {
+            degree: c.degree,
+            points: right,
+        },
+    }
+}
+
+// The least rectangle that holds every control point; refusals 1 to 3.
+pub fn bounds(c: Curve) -> Enclosure
+    ensures { λ r. ⌜ r ≡ bounded c ⌝ }
+{
+    let refusal = curve_refusal(c);
+    if refusal.number != 0 {
+        return Enclosure {
+            refusal,
+            rect: zero_rect(),
+        };
+    }
+    Enclosure {
+        refusal,
+        rect: hull_of(c),
+    }
+}
