@@ -1,1 +1,3 @@
 -- Laws of the definitions in specs/.
+pub mod Whole
+pub mod Order
