@@ -1,12 +1,12 @@
 -- The order of the whole numbers: a ≤ b means that b is a plus a natural number, so its laws are equations of the ring.
 -- Assumes nothing.
-use mathlib.Core.Path.{_≡_, refl, sym, _∙_, ap, subst}
+use mathlib.Core.Path.{_≡_, refl, sym, _∙_, ap, subst, subst₂}
 use mathlib.Core.Bool.{Bool, true, false, not, cond}
 use mathlib.Core.Logic.{_⊎_, inl, inr}
 use Prim.Native.Nat.{ℕ, zero, suc, _+_, _*_, _-_, _≤_, _<_}
 use native.Mathlib.Omega.{arith}
 use lib.Dec.{T, ltb, leb→le, le→leb, ltb→lt, lt→ltb, nleb→lt, nltb→le}
-use lib.IntN.{ℤ, pos, negsuc, negℤ, subℕ, _+ℤ_, _*ℤ_, +ℤ-assoc, +ℤ-comm, +ℤ-idr, +ℤ-invl}
+use lib.IntN.{ℤ, pos, negsuc, negℤ, subℕ, _+ℤ_, _*ℤ_, *ℤ-comm, +ℤ-assoc, +ℤ-comm, +ℤ-idr, +ℤ-invl}
 use lib.Signed.{leZ, ltZ, _≤ℤ_, _<ℤ_, leZ-yes, ltZ-yes, ≤ℤ-refl, clashℤ}
 use Rattle.rational.proofs.Whole.{add-mul, add-left-comm, add-right-cancel}
 
@@ -190,6 +190,9 @@ pub *ℤ-mono : {a b : ℤ} (d : ℕ) → a ≤ℤ b → (a *ℤ pos d) ≤ℤ (
 *ℤ-mono {a} {b} d h =
     let (n, p) = ≤ℤ-difference h in
     ≤ℤ-from (n * d) (sym (add-mul a (pos n) (pos d)) ∙ ap (λ x. x *ℤ pos d) p)
+
+pub *ℤ-mono-left : {a b : ℤ} (d : ℕ) → a ≤ℤ b → (pos d *ℤ a) ≤ℤ (pos d *ℤ b)
+*ℤ-mono-left {a} {b} d h = subst₂ (λ x y. x ≤ℤ y) (*ℤ-comm a (pos d)) (*ℤ-comm b (pos d)) (*ℤ-mono d h)
 
 pub *ℤ-cancel : {a b : ℤ} (d : ℕ) → 0 < d → (a *ℤ pos d) ≤ℤ (b *ℤ pos d) → a ≤ℤ b
 *ℤ-cancel {a} {b} d positive h = elim (≤ℤ-or-<ℤ a b) [ inl k ↦ k | inr k ↦ absurd (clash k) ]
