@@ -1,2 +1,5 @@
 -- Laws of the definitions in specs/.
 pub mod Table
+pub mod Semiring
+pub mod Exact
+pub mod Subdivision

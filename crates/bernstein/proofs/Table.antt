@@ -2,6 +2,7 @@
 -- Assumes nothing.
 use Prim.Native.Nat.{ℕ, zero, suc, _+_, _-_, _≤_}
 use native.Mathlib.Nat.{le-refl, zero-add, suc-add, sub-self, sub-zero}
+use native.Mathlib.Numerals.{add-one}
 use native.Mathlib.Omega.{arith}
 use mathlib.Core.Path.{_≡_, refl, sym, ap, ap₂, _∙_, fun-ext}
 use Rattle.bernstein.specs.DeCasteljau.{table, value, left, right}
@@ -54,6 +55,11 @@ module _ {A : Type 0} (f : A → A → A) where
   table-table P zero j k = ap (λ m. table f P m k) (sym (zero-add j))
   table-table P (suc m) j k =
       ap₂ f (table-table P m j k) (table-table P m j (suc k)) ∙ ap (λ i. table f P i k) (sym (suc-add m j))
+
+  -- the first stage taken first
+  pub table-first : (P : ℕ → A) (j k : ℕ) → table f P (suc j) k ≡ table f (λ i. f (P i) (P (suc i))) j k
+  unfolding table
+  table-first P j k = sym (table-table P j 1 k ∙ ap (λ i. table f P i k) (add-one j))
 
   -- the table of the points from the second on
   pub table-shift : (P : ℕ → A) (j k : ℕ) → table f (λ i. P (suc i)) j k ≡ table f P j (suc k)
