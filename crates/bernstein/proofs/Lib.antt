@@ -3,3 +3,4 @@ pub mod Table
 pub mod Semiring
 pub mod Exact
 pub mod Subdivision
+pub mod Elevation
