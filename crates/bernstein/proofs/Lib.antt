@@ -4,3 +4,4 @@ pub mod Semiring
 pub mod Exact
 pub mod Subdivision
 pub mod Elevation
+pub mod BernsteinSum
