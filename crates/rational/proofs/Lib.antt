@@ -1,1 +1,4 @@
 -- Laws of the definitions in specs/.
+pub mod Whole
+pub mod Order
+pub mod Quotient
