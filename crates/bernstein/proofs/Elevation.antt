@@ -4,12 +4,9 @@ use Prim.Native.Nat.{ℕ, zero, suc, _+_, _-_, _≤_}
 use native.Mathlib.Omega.{arith}
 use mathlib.Core.Path.{_≡_, refl, sym, ap, ap₂, _∙_, fun-ext}
 use Rattle.bernstein.specs.DeCasteljau.{table, value}
+use Rattle.bernstein.proofs.Raised.{raised}
 use Rattle.bernstein.proofs.Semiring.{Semiring, polynomial, natural, plus-times, one-times}
 use Rattle.bernstein.proofs.Exact.{mix}
-
--- control point k of the curve raised from degree n: the points k - 1 and k, mapped with the weights k and n + 1 - k
-unfoldable pub raised : {A : Type 0} → (ℕ → ℕ → A → A → A) → ℕ → (ℕ → A) → ℕ → A
-raised map n P k = map k (suc n - k) (P (k - 1)) (P k)
 
 module _ (𝓢 : Semiring) (e : 𝓢 .carrier) where
   open Semiring 𝓢 using (carrier, _⊕_, _⊗_, nought, one)
