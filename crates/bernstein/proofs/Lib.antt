@@ -1,1 +1,9 @@
 -- Laws of the definitions in specs/.
+pub mod Table
+pub mod Raised
+pub mod Semiring
+pub mod Exact
+pub mod Subdivision
+pub mod Elevation
+pub mod BernsteinSum
+pub mod Bounds
