@@ -1,2 +1,5 @@
 -- Laws of the definitions in specs/, and the promises.
 pub mod Machine
+pub mod Sides
+pub mod Counted
+pub mod Refused

@@ -2,7 +2,7 @@
 -- Assumes nothing.
 use mathlib.Core.Path.{_≡_}
 use mathlib.Core.List.{List}
-use mathlib.Core.Bool.{Bool, true, false}
+use mathlib.Core.Bool.{Bool, true, false, cond}
 use Prim.Native.Nat.{ℕ, suc, _+_, _≤_, _<_}
 use lib.IntN.{ℤ, pos, negℤ}
 use lib.Signed.{_≤ℤ_}
@@ -11,9 +11,11 @@ use Rattle.rational.specs.Rounding.{Rounding, down, up}
 use Rattle.curve.specs.declared.Interval.{Interval}
 use Rattle.curve.specs.declared.Rect.{Rect}
 use Rattle.curve.specs.declared.Curve.{Curve}
+use Rattle.curve.specs.declared.Refusal.{Refusal}
 use Rattle.curve.specs.Limits.{maxDegree, maxSide, maxDen}
 use Rattle.curve.specs.Rect.{Coordinate, end, along, zeroRect}
 use Rattle.curve.specs.Curve.{point}
+use Rattle.curve.specs.Refusals.{none, refusal}
 
 -- a side within its range
 pub record Side (z : ℤ) : Type 0 where
@@ -48,3 +50,7 @@ pub record Ready (c : Curve) : Type 0 where
 pub record Staged (m : ℕ) (map : Rect → Rect → Rect) (before after : List Rect) : Type 0 where
   pub mapped : (k : ℕ) → k < m → getD after k zeroRect ≡ map (getD before k zeroRect) (getD before (suc k) zeroRect)
   pub kept : (k : ℕ) → m ≤ k → getD after k zeroRect ≡ getD before k zeroRect
+
+-- the refusal of one rectangle's order
+abbrev pub orderRefusalAt : Bool → ℕ → Refusal
+orderRefusalAt ordered place = cond ordered none (refusal 3 place)

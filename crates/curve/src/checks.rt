@@ -4,6 +4,7 @@ ghost use Prim.Native.Nat.{_≤_};
 ghost use Rattle.curve.specs.Rect.{inRange, endsInRange, sidesInRange, endsOrdered, sidesOrdered};
 ghost use Rattle.curve.specs.Limits.{maxDegree};
 ghost use Rattle.curve.specs.Refusals.{curveRefusal, parameterRefusal, rangeRefusal, orderRefusal, _orElse_};
+ghost use Rattle.curve.specs.Inner.{orderRefusalAt};
 ghost use Rattle.curve.specs.Calls.{callRefusal};
 
 use crate::{Curve, Interval, MAX_DEGREE, MAX_DEN, MAX_SIDE, MIN_SIDE, Rect, Refusal};
@@ -38,6 +39,25 @@ fn sides_ordered(p: Rect) -> bool
     ends_ordered(p.resistance) && ends_ordered(p.reactance)
 }
 
+// The earlier refusal; where there is none, a 3 at this place if a low is above its high.
+fn order_refusal(earlier: Refusal, p: Rect, place: usize) -> Refusal
+    ensures { λ r. ⌜ r ≡ (earlier orElse orderRefusalAt (sidesOrdered p) place) ⌝ }
+{
+    if earlier.number != 0 {
+        return earlier;
+    }
+    if sides_ordered(p) {
+        return Refusal {
+            number: 0,
+            place: 0,
+        };
+    }
+    Refusal {
+        number: 3,
+        place,
+    }
+}
+
 // Refusals 2 and 3 in one pass: a side out of range ends it, and the first low above its high is kept for the end.
 fn points_refusal(c: Curve) -> Refusal
     requires { ⌜ c .degree ≤ maxDegree ⌝ }
@@ -57,12 +77,7 @@ fn points_refusal(c: Curve) -> Refusal
                 place: k,
             };
         }
-        if unordered.number == 0 && !sides_ordered(p) {
-            unordered = Refusal {
-                number: 3,
-                place: k,
-            };
-        }
+        unordered = order_refusal(unordered, p, k);
         k += 1;
     }
     unordered

@@ -16,10 +16,12 @@ pub fn ohms_of(p: Rect) -> Ohms
     requires { ⌜ Held p ⌝ }
     ensures { λ r. ⌜ r ≡ ohmsOf p ⌝ }
 {
+    let r = p.resistance;
+    let x = p.reactance;
     Ohms {
-        rlow: ohms_of_side(p.resistance.low),
-        rhigh: ohms_of_side(p.resistance.high),
-        xlow: ohms_of_side(p.reactance.low),
-        xhigh: ohms_of_side(p.reactance.high),
+        rlow: ohms_of_side(r.low),
+        rhigh: ohms_of_side(r.high),
+        xlow: ohms_of_side(x.low),
+        xhigh: ohms_of_side(x.high),
     }
 }

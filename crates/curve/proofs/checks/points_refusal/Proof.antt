@@ -1,59 +1,60 @@
+-- `points_refusal` meets its contract. The invariant: the places before k are passed (`Passed`). The measure is what is left of them.
+-- Assumes nothing.
+use mathlib.Core.Path.{sym, ap, _∙_, subst}
+use Prim.Native.Nat.{_+_, _-_, _≤_}
+use native.Mathlib.Omega.{arith}
+use borrow.Author.Needs.{needs}
+use borrow.Author.Tests.{not-true, not-false}
+use Rattle.curve.specs.Inner.{orderRefusalAt}
+use Rattle.curve.proofs.Refused.{Passed, passed-start, passed-next, passed-range, passed-end}
 use Rattle.curve.proofs.checks.points_refusal.Statement.{statement}
 use Rattle.curve.proofs.checks.points_refusal.Tie as tie
-use Rattle.curve.proofs.checks.points_refusal.Reads as reads
-use Rattle.curve.proofs.checks.points_refusal.Lts as lts
-use Rattle.curve.proofs.checks.sides_in_range.Reads as sides-in-range-reads
-use Rattle.curve.proofs.checks.sides_ordered.Reads as sides-ordered-reads
 
 abbrev Inv-loop : tie.InvT-loop
-Inv-loop c n unordered₀ k₀ unordered k = ?
+Inv-loop c n unordered₀ k₀ unordered k = (n ≤ 8) × Passed c n k unordered
 
 abbrev μ-loop : tie.MeasureT-loop
-μ-loop c n unordered₀ k₀ unordered k = ?
+μ-loop c n unordered₀ k₀ unordered k = n + 1 - k
 
--- src/checks.rt:38:13
 cast-n : tie.Need-cast-n Inv-loop μ-loop
-cast-n c = ?
+cast-n c = omega arith
 
--- src/checks.rt:44:5
 loop-holds : tie.Need-loop-holds Inv-loop μ-loop
-loop-holds c = ?
+loop-holds c = (c .pre, passed-start (c .args .t1))
 
--- src/checks.rt:45:17
 mul-p : tie.Need-mul-p Inv-loop μ-loop
-mul-p c = ?
+mul-p c = omega arith
 
--- src/checks.rt:45:17
 element-copy-out-p : tie.Need-element-copy-out-p Inv-loop μ-loop
-element-copy-out-p c = ?
+element-copy-out-p c = omega arith
 
--- src/checks.rt:46:13
 sides-in-range-requires : tie.Need-sides-in-range-requires Inv-loop μ-loop
-sides-in-range-requires c κs = ?
+sides-in-range-requires c κs = search needs
 
--- src/checks.rt:47:13
 returns : tie.Need-returns Inv-loop μ-loop
-returns c = ?
+returns c =
+    let l = c .before .before .before .before in
+    passed-range (l .before .args .t1) (l .before .args .t1 .degree) (l .loop .k) (l .loop .unordered) (c .before .before .before .loop-test .taken) (l .loop .inv .1) ?
 
--- src/checks.rt:52:38
-sides-ordered-requires : tie.Need-sides-ordered-requires Inv-loop μ-loop
-sides-ordered-requires c κs = ?
+order-refusal-requires : tie.Need-order-refusal-requires Inv-loop μ-loop
+order-refusal-requires c κs = search needs
 
--- src/checks.rt:58:9
 add-k : tie.Need-add-k Inv-loop μ-loop
-add-k c = ?
+add-k c = omega arith
 
--- src/checks.rt:44:5
 loop-less : tie.Need-loop-less Inv-loop μ-loop
-loop-less c = ?
+loop-less c = omega arith
 
--- src/checks.rt:44:5
 loop-again : tie.Need-loop-again Inv-loop μ-loop
-loop-again c = ?
+loop-again c =
+    let l = c .before .before .before .before .before in
+    let next = passed-next (l .before .args .t1) (l .before .args .t1 .degree) (l .loop .k) (l .loop .unordered) (c .before .before .before .before .loop-test .taken) (l .loop .inv .1) ? in
+    (l .loop .inv .0, subst (λ r. Passed (l .before .args .t1) (l .before .args .t1 .degree) (l .loop .k + 1) r) (sym (c .order-refusal .ensures)) next)
 
--- src/checks.rt:34:1
 returns-2 : tie.Need-returns-2 Inv-loop μ-loop
-returns-2 c = ?
+returns-2 c =
+    let l = c .before in
+    passed-end (l .before .args .t1) (l .before .args .t1 .degree) (l .loop .k) (l .loop .unordered) (c .loop-test .left) (l .loop .inv .1)
 
 pub points-refusal-spec : {M : Type 1} → statement M
 points-refusal-spec =
@@ -67,7 +68,7 @@ points-refusal-spec =
     element-copy-out-p
     sides-in-range-requires
     returns
-    sides-ordered-requires
+    order-refusal-requires
     add-k
     loop-less
     loop-again

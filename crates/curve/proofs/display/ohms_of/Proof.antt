@@ -1,28 +1,35 @@
+-- `ohms_of` meets its contract, by its four sides.
+-- Assumes nothing.
+use mathlib.Core.Path.{ap, _∙_}
+use Rattle.rational.specs.Rounding.{down, up}
+use Rattle.curve.specs.Rect.{resistance, reactance}
+use Rattle.curve.specs.Ohms.{ohm, ohmsOf}
+use Rattle.curve.proofs.Sides.{side-back, side-passed}
 use Rattle.curve.proofs.display.ohms_of.Statement.{statement}
 use Rattle.curve.proofs.display.ohms_of.Tie as tie
-use Rattle.curve.proofs.display.ohms_of.Reads as reads
-use Rattle.curve.proofs.display.ohms_of.Lts as lts
-use Rattle.curve.proofs.display.ohms_of_side.Reads as ohms-of-side-reads
 
--- src/display.rt:20:15
 ohms-of-side-requires : tie.Need-ohms-of-side-requires
-ohms-of-side-requires c κs = ?
+ohms-of-side-requires c κs = side-passed (c .before .before .before .pre .at resistance .at down)
 
--- src/display.rt:21:16
 ohms-of-side-requires-2 : tie.Need-ohms-of-side-requires-2
-ohms-of-side-requires-2 c κs = ?
+ohms-of-side-requires-2 c κs = side-passed (c .before .before .before .before .before .pre .at resistance .at up)
 
--- src/display.rt:22:15
 ohms-of-side-requires-3 : tie.Need-ohms-of-side-requires-3
-ohms-of-side-requires-3 c κs = ?
+ohms-of-side-requires-3 c κs = side-passed (c .before .before .before .before .before .before .before .pre .at reactance .at down)
 
--- src/display.rt:23:16
 ohms-of-side-requires-4 : tie.Need-ohms-of-side-requires-4
-ohms-of-side-requires-4 c κs = ?
+ohms-of-side-requires-4 c κs = side-passed (c .before .before .before .before .before .before .before .before .before .pre .at reactance .at up)
 
--- src/display.rt:15:1
 returns : tie.Need-returns
-returns c = ?
+unfolding ohmsOf
+returns c =
+    let held = c .before .before .before .before .before .before .before .before .before .before .pre in
+    rw (
+      c .before .before .before .before .before .before .ohms-of-side .ensures ∙ ap ohm (side-back (held .at resistance .at down)),
+      c .before .before .before .before .ohms-of-side2 .ensures ∙ ap ohm (side-back (held .at resistance .at up)),
+      c .before .before .ohms-of-side3 .ensures ∙ ap ohm (side-back (held .at reactance .at down)),
+      c .ohms-of-side4 .ensures ∙ ap ohm (side-back (held .at reactance .at up))
+    )
 
 pub ohms-of-spec : {M : Type 1} → statement M
 ohms-of-spec =
