@@ -17,6 +17,14 @@ module _ (𝓢 : Semiring) (e : 𝓢 .carrier) where
   unfoldable pub weighted : ℕ → ℕ → carrier → carrier → carrier
   weighted k m = mix 𝓢 (natural 𝓢 k ⊗ e) (natural 𝓢 m ⊗ e)
 
+  -- a point with the weight 0 does not count
+  pub weighted-edge : (n : ℕ) (a b : carrier) → weighted (suc n) 0 a b ≡ weighted (suc n) 0 a a
+  unfolding weighted mix natural
+  weighted-edge n a b = ap (λ x. natural 𝓢 (suc n) ⊗ e ⊗ a ⊕ x) (none b ∙ sym (none a))
+    where
+      none : (x : carrier) → nought ⊗ e ⊗ x ≡ nought
+      none x = simp polynomial
+
 module _ (𝓢 : Semiring) (s t : 𝓢 .carrier) (P : ℕ → 𝓢 .carrier) where
   open Semiring 𝓢 using (carrier, _⊕_, _⊗_, nought, one)
 

@@ -7,3 +7,6 @@ pub mod Subdivision
 pub mod Elevation
 pub mod BernsteinSum
 pub mod Bounds
+pub mod Rationals
+pub mod Curve
+pub mod Rounded

@@ -116,6 +116,10 @@ x -ℚ y = x +ℚ negℚ y
 unfoldable pub embed : ℤ → ℚ
 embed z = rat (whole z)
 
+pub rat-whole : (z : ℤ) → rat (whole z) ≡ embed z
+unfolding embed
+rat-whole z = refl
+
 -- ---- the ring laws
 
 pub +ℚ-comm : (x y : ℚ) → x +ℚ y ≡ y +ℚ x
