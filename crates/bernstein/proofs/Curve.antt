@@ -1,18 +1,18 @@
 -- A curve over the rational numbers as a function of its parameter: its pieces and its raised form are the curve itself, and its value is the Bernstein sum.
 -- Assumes nothing.
-use Prim.Native.Nat.{ℕ, suc}
-use mathlib.Core.Path.{_≡_, refl, sym, ap, ap₂, _∙_}
+use Prim.Native.Nat.{ℕ, suc, _<_}
+use mathlib.Core.Path.{_≡_, sym, ap, _∙_}
 use lib.IntN.{pos}
-use Rattle.rational.specs.Fraction.{Frac, complement}
+use Rattle.rational.specs.Fraction.{Frac}
 use Rattle.rational.proofs.Rational.{ℚ, rat, rat-complement, embed, _+ℚ_, _-ℚ_, _*ℚ_, +ℚ-cancel, -ℚ-cancel}
 use Rattle.bernstein.specs.DeCasteljau.{value, left, right}
 use Rattle.bernstein.specs.Bernstein.{bernstein}
-use Rattle.bernstein.proofs.Semiring.{Semiring, polynomial, natural}
+use Rattle.bernstein.proofs.Semiring.{Semiring, polynomial}
 use Rattle.bernstein.proofs.Exact.{mix}
 use Rattle.bernstein.proofs.Raised.{raised}
 use Rattle.bernstein.proofs.Subdivision.{left-value, right-value}
-use Rattle.bernstein.proofs.Elevation.{weighted, raised-value}
-use Rattle.bernstein.proofs.Rationals.{rationals, bernstein-value}
+use Rattle.bernstein.proofs.Elevation.{raised-value}
+use Rattle.bernstein.proofs.Rationals.{rationals, mean, mean-weighted, one-ratio, bernstein-value}
 
 -- the value at x of the curve of degree n
 unfoldable pub curve : (ℕ → ℚ) → ℕ → ℚ → ℚ
@@ -61,6 +61,8 @@ module _ (P : ℕ → ℚ) (n : ℕ) (x : ℚ) where
       curve-at P n _ _ (right-unit rationals s t (embed (pos 1) -ℚ x) x h (-ℚ-cancel (embed (pos 1)) x)) ∙
       ap (curve P n) (right-parameter rationals s t (embed (pos 1) -ℚ x) x h (-ℚ-cancel (embed (pos 1)) x))
 
-  pub raised-curve : (e : ℚ) → natural rationals (suc n) *ℚ e ≡ embed (pos 1) → curve (raised (weighted rationals e) n P) (suc n) x ≡ curve P n x
+  pub raised-curve : (positive : 0 < suc n) → curve (raised (mean (suc n) positive) n P) (suc n) x ≡ curve P n x
   unfolding curve
-  raised-curve e h = raised-value rationals (embed (pos 1) -ℚ x) x P (-ℚ-cancel (embed (pos 1)) x) e n h
+  raised-curve positive =
+      ap (λ f. curve (raised f n P) (suc n) x) (sym (mean-weighted (suc n) positive)) ∙
+      raised-value rationals (embed (pos 1) -ℚ x) x P (-ℚ-cancel (embed (pos 1)) x) _ n (one-ratio (suc n) positive)

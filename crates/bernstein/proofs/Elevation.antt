@@ -1,8 +1,8 @@
 -- Raising the degree of a curve by one over a commutative semiring does not change its value.
 -- Assumes nothing.
-use Prim.Native.Nat.{ℕ, zero, suc, _+_, _-_, _≤_}
+use Prim.Native.Nat.{ℕ, zero, suc, _+_, _-_}
 use native.Mathlib.Omega.{arith}
-use mathlib.Core.Path.{_≡_, refl, sym, ap, ap₂, _∙_, fun-ext}
+use mathlib.Core.Path.{_≡_, refl, sym, ap, ap₂, _∙_}
 use Rattle.bernstein.specs.DeCasteljau.{table, value}
 use Rattle.bernstein.proofs.Raised.{raised}
 use Rattle.bernstein.proofs.Semiring.{Semiring, polynomial, natural, plus-times, one-times}

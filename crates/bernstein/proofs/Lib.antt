@@ -9,4 +9,5 @@ pub mod BernsteinSum
 pub mod Bounds
 pub mod Rationals
 pub mod Curve
+pub mod Convex
 pub mod Rounded

@@ -116,10 +116,6 @@ x -ℚ y = x +ℚ negℚ y
 unfoldable pub embed : ℤ → ℚ
 embed z = rat (whole z)
 
-pub rat-whole : (z : ℤ) → rat (whole z) ≡ embed z
-unfolding embed
-rat-whole z = refl
-
 -- ---- the ring laws
 
 pub +ℚ-comm : (x y : ℚ) → x +ℚ y ≡ y +ℚ x
@@ -232,6 +228,10 @@ rat-complement a = rat-equal (complement a) (whole (pos 1) +ᶠ opposite a) (law
     law u l = ap (λ x. (l -ℤ u) *ℤ x) (one-mul l) ∙ ap₂ (λ x y. (x +ℤ y) *ℤ l) (sym (one-mul l)) (sym (mul-one (negℤ u)))
 
 -- ---- whole numbers
+
+pub rat-whole : (z : ℤ) → rat (whole z) ≡ embed z
+unfolding embed
+rat-whole z = refl
 
 pub embed-add : (a b : ℤ) → embed (a +ℤ b) ≡ embed a +ℚ embed b
 unfolding ℚ rat _+ℚ_ _+ᶠ_ embed whole
