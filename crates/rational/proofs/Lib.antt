@@ -4,3 +4,4 @@ pub mod Order
 pub mod Quotient
 pub mod Rational
 pub mod RationalOrder
+pub mod Division
