@@ -85,6 +85,10 @@ module _ (d : ℕ) (positive : 0 < d) where
       (more (quotient r z d *ℤ pos d) (pos (below r)) ∙ ap (λ x. x +ℚ embed (pos (below r))) (ratio-whole (quotient r z d)))
       (ratio-mono (quotient-lower d positive r z))
 
+  -- a combination of whole numbers with the weights s / d and t / d
+  pub ratio-affine : (s t a b : ℤ) → ratio (s *ℤ a +ℤ t *ℤ b) ≡ ratio s *ℚ embed a +ℚ ratio t *ℚ embed b
+  ratio-affine s t a b = ratio-add (s *ℤ a) (t *ℤ b) ∙ ap₂ (λ x y. x +ℚ y) (ratio-scale s a) (ratio-scale t b)
+
 -- a fraction is its upper number over its lower
 pub rat-ratio : (a : Frac) → rat a ≡ ratio (a .lower) (a .positive) (a .upper)
 unfolding ratio

@@ -229,6 +229,10 @@ rat-complement a = rat-equal (complement a) (whole (pos 1) +ᶠ opposite a) (law
 
 -- ---- whole numbers
 
+pub rat-whole : (z : ℤ) → rat (whole z) ≡ embed z
+unfolding embed
+rat-whole z = refl
+
 pub embed-add : (a b : ℤ) → embed (a +ℤ b) ≡ embed a +ℚ embed b
 unfolding ℚ rat _+ℚ_ _+ᶠ_ embed whole
 embed-add a b = rat-equal (whole (a +ℤ b)) (whole a +ᶠ whole b) (ap (λ x. x *ℤ pos 1) (ap₂ (λ x y. x +ℤ y) (sym (mul-one a)) (sym (mul-one b))))
