@@ -3,8 +3,9 @@
 use Prim.Native.Nat.{ℕ, _+_, _≤_, _<_}
 use mathlib.Core.Path.{_≡_, sym, ap, subst, _∙_}
 use lib.IntN.{pos}
+use Rattle.rational.proofs.Order.{pos-mono}
 use Rattle.rational.proofs.Rational.{ℚ, embed, embed-add, _+ℚ_, _-ℚ_, +ℚ-zero, +ℚ-invr, -ℚ-cancel}
-use Rattle.rational.proofs.RationalOrder.{_≤ℚ_, ≤ℚ-trans, +ℚ-mono, +ℚ-mono-right, *ℚ-mono-left}
+use Rattle.rational.proofs.RationalOrder.{_≤ℚ_, ≤ℚ-trans, +ℚ-mono, +ℚ-mono-left, +ℚ-mono-right, *ℚ-mono-left, embed-mono}
 use Rattle.rational.proofs.Division.{ratio, ratio-nonneg, ratio-weights}
 use Rattle.bernstein.specs.DeCasteljau.{table}
 use Rattle.bernstein.proofs.Semiring.{Semiring, polynomial, plus-assoc, one-times}
@@ -22,6 +23,9 @@ excess-trans {x} {y} {z} c d p q = record {
       subst (λ w. x ≤ℚ w) (plus-assoc rationals z _ _ ∙ ap (λ w. z +ℚ w) (sym (embed-add (pos d) (pos c))))
       (≤ℚ-trans (p .bound) (+ℚ-mono-right (embed (pos c)) (q .bound)));
 }
+
+pub excess-weaken : {x y : ℚ} {c d : ℕ} → c ≤ d → Excess c x y → Excess d x y
+excess-weaken {y = y} l p = record { bound = ≤ℚ-trans (p .bound) (+ℚ-mono-left y (embed-mono (pos-mono l))) }
 
 -- an excess of 0 is the order
 pub excess-order : {x y : ℚ} → Excess 0 x y → x ≤ℚ y

@@ -8,6 +8,6 @@ pub mod Elevation
 pub mod BernsteinSum
 pub mod Bounds
 pub mod Rationals
-pub mod Curve
 pub mod Convex
+pub mod Curve
 pub mod Rounded
