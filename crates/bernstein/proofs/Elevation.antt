@@ -1,8 +1,8 @@
 -- Raising the degree of a curve by one over a commutative semiring does not change its value.
 -- Assumes nothing.
-use Prim.Native.Nat.{ℕ, zero, suc, _+_, _-_, _≤_}
+use Prim.Native.Nat.{ℕ, zero, suc, _+_, _-_}
 use native.Mathlib.Omega.{arith}
-use mathlib.Core.Path.{_≡_, refl, sym, ap, ap₂, _∙_, fun-ext}
+use mathlib.Core.Path.{_≡_, refl, sym, ap, ap₂, _∙_}
 use Rattle.bernstein.specs.DeCasteljau.{table, value}
 use Rattle.bernstein.proofs.Raised.{raised}
 use Rattle.bernstein.proofs.Semiring.{Semiring, polynomial, natural, plus-times, one-times}
@@ -16,6 +16,14 @@ module _ (𝓢 : Semiring) (e : 𝓢 .carrier) where
   -- the exact map with the weights k and m, each times e
   unfoldable pub weighted : ℕ → ℕ → carrier → carrier → carrier
   weighted k m = mix 𝓢 (natural 𝓢 k ⊗ e) (natural 𝓢 m ⊗ e)
+
+  -- a point with the weight 0 does not count
+  pub weighted-edge : (n : ℕ) (a b : carrier) → weighted (suc n) 0 a b ≡ weighted (suc n) 0 a a
+  unfolding weighted mix natural
+  weighted-edge n a b = ap (λ x. natural 𝓢 (suc n) ⊗ e ⊗ a ⊕ x) (none b ∙ sym (none a))
+    where
+      none : (x : carrier) → nought ⊗ e ⊗ x ≡ nought
+      none x = simp polynomial
 
 module _ (𝓢 : Semiring) (s t : 𝓢 .carrier) (P : ℕ → 𝓢 .carrier) where
   open Semiring 𝓢 using (carrier, _⊕_, _⊗_, nought, one)

@@ -1,7 +1,7 @@
 -- De Casteljau's table over a commutative semiring, exactly: each entry is linear in the sequence.
 -- Assumes nothing.
-use Prim.Native.Nat.{ℕ, zero, suc, _+_}
-use mathlib.Core.Path.{_≡_, refl, sym, ap, ap₂, _∙_, fun-ext}
+use Prim.Native.Nat.{ℕ, zero, suc}
+use mathlib.Core.Path.{_≡_, refl, ap₂, _∙_}
 use Rattle.bernstein.specs.DeCasteljau.{table}
 use Rattle.bernstein.proofs.Semiring.{Semiring, polynomial}
 

@@ -7,3 +7,7 @@ pub mod Subdivision
 pub mod Elevation
 pub mod BernsteinSum
 pub mod Bounds
+pub mod Rationals
+pub mod Convex
+pub mod Curve
+pub mod Rounded

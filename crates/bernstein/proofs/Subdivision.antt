@@ -1,7 +1,6 @@
 -- The two pieces of a curve over a commutative semiring are the curve itself, at other factors.
 -- Assumes nothing.
 use Prim.Native.Nat.{ℕ, zero, suc, _+_, _-_}
-use native.Mathlib.Nat.{add-zero, add-suc, suc-add}
 use native.Mathlib.Omega.{arith}
 use mathlib.Core.Path.{_≡_, refl, sym, ap, ap₂, _∙_, fun-ext}
 use Rattle.bernstein.specs.DeCasteljau.{table, value, left, right}

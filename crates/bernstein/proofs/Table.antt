@@ -1,10 +1,10 @@
 -- Laws of de Casteljau's table over any kind of point and any map of two points.
 -- Assumes nothing.
-use Prim.Native.Nat.{ℕ, zero, suc, _+_, _-_, _≤_}
+use Prim.Native.Nat.{ℕ, zero, suc, _+_, _≤_}
 use native.Mathlib.Nat.{le-refl, zero-add, suc-add, sub-self, sub-zero}
 use native.Mathlib.Numerals.{add-one}
 use native.Mathlib.Omega.{arith}
-use mathlib.Core.Path.{_≡_, refl, sym, ap, ap₂, _∙_, fun-ext}
+use mathlib.Core.Path.{_≡_, refl, sym, ap, ap₂, _∙_}
 use Rattle.bernstein.specs.DeCasteljau.{table, value, left, right}
 
 -- a relation that grows with the stages and holds of two sequences as far as n holds of their two tables within the triangle

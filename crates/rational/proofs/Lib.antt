@@ -2,3 +2,6 @@
 pub mod Whole
 pub mod Order
 pub mod Quotient
+pub mod Rational
+pub mod RationalOrder
+pub mod Division

@@ -123,6 +123,10 @@ pub ≤ℤ-or-<ℤ : (a b : ℤ) → (a ≤ℤ b) ⊎ (b <ℤ a)
     by-test true h = inl (test-yes h)
     by-test false h = inr (test-no h)
 
+-- a choice by the test, such as a minimum or a maximum
+pub chosen : (a b x y : ℤ) (P : ℤ → Type 0) → (a ≤ℤ b → P x) → (b <ℤ a → P y) → P (cond (leZ a b) x y)
+chosen a b x y P f g = pick (leZ a b) x y P (λ t. f (leZ-yes t)) (λ t. g (ltZ-yes (fails a b t)))
+
 weaken : (a b : ℤ) → T (ltZ a b) → T (leZ a b)
 weaken (pos a) (pos b) t = le→leb a b (omega (arith, ltb→lt a b t))
 weaken (pos a) (negsuc b) t = t
