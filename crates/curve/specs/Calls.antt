@@ -7,11 +7,12 @@ use Rattle.curve.specs.declared.Curve.{Curve}
 use Rattle.curve.specs.declared.Refusal.{Refusal}
 use Rattle.curve.specs.declared.Evaluation.{Evaluation}
 use Rattle.curve.specs.declared.Subdivision.{Subdivision}
+use Rattle.curve.specs.declared.Elevation.{Elevation}
 use Rattle.curve.specs.declared.Enclosure.{Enclosure}
 use Rattle.curve.specs.Rect.{zeroRect}
-use Rattle.curve.specs.Curve.{zeroCurve, loadOf, leftOf, rightOf, boundsOf}
+use Rattle.curve.specs.Curve.{zeroCurve, loadOf, leftOf, rightOf, raisedOf, boundsOf}
 use Rattle.curve.specs.Ohms.{ohmsOf, zeroOhms}
-use Rattle.curve.specs.Refusals.{_orElse_, curveRefusal, parameterRefusal}
+use Rattle.curve.specs.Refusals.{_orElse_, curveRefusal, parameterRefusal, raisingRefusal}
 
 -- refusals 1 to 5
 unfoldable pub callRefusal : Curve → ℕ → ℕ → Refusal
@@ -32,6 +33,15 @@ subdivided c num den =
     cond (eqb (r .number) 0)
     (record { refusal = r; left = leftOf c num den; right = rightOf c num den })
     (record { refusal = r; left = zeroCurve; right = zeroCurve })
+
+-- raising the degree: refusals 1 to 3, and 6
+unfoldable pub elevationRefusal : Curve → Refusal
+elevationRefusal c = curveRefusal c orElse raisingRefusal (c .degree)
+
+unfoldable pub elevated : Curve → Elevation
+elevated c =
+    let r = elevationRefusal c in
+    cond (eqb (r .number) 0) (record { refusal = r; curve = raisedOf c }) (record { refusal = r; curve = zeroCurve })
 
 -- the span
 unfoldable pub bounded : Curve → Enclosure

@@ -73,6 +73,12 @@ pub struct Subdivision {
     pub right: Curve,
 }
 
+// The answer of elevate.
+pub struct Elevation {
+    pub refusal: Refusal,
+    pub curve: Curve,
+}
+
 // The answer of bounds.
 pub struct Enclosure {
     pub refusal: Refusal,

@@ -34,7 +34,7 @@ sides-in-range-requires c κs = search needs
 returns : tie.Need-returns Inv-loop μ-loop
 returns c =
     let l = c .before .before .before .before in
-    passed-range (l .before .args .t1) (l .before .args .t1 .degree) (l .loop .k) (l .loop .unordered) (c .before .before .before .loop-test .taken) (l .loop .inv .1) ?
+    passed-range (l .before .args .t1) (l .before .args .t1 .degree) (l .loop .k) (l .loop .unordered) (c .before .before .before .loop-test .taken) (l .loop .inv .1) (sym (c .before .sides-in-range .ensures) ∙ not-true (c .before .sides-in-range .result) (c .if1 .taken))
 
 order-refusal-requires : tie.Need-order-refusal-requires Inv-loop μ-loop
 order-refusal-requires c κs = search needs
@@ -48,7 +48,7 @@ loop-less c = omega arith
 loop-again : tie.Need-loop-again Inv-loop μ-loop
 loop-again c =
     let l = c .before .before .before .before .before in
-    let next = passed-next (l .before .args .t1) (l .before .args .t1 .degree) (l .loop .k) (l .loop .unordered) (c .before .before .before .before .loop-test .taken) (l .loop .inv .1) ? in
+    let next = passed-next (l .before .args .t1) (l .before .args .t1 .degree) (l .loop .k) (l .loop .unordered) (c .before .before .before .before .loop-test .taken) (l .loop .inv .1) (sym (c .before .before .sides-in-range .ensures) ∙ not-false (c .before .before .sides-in-range .result) (c .before .if1 .left)) in
     (l .loop .inv .0, subst (λ r. Passed (l .before .args .t1) (l .before .args .t1 .degree) (l .loop .k + 1) r) (sym (c .order-refusal .ensures)) next)
 
 returns-2 : tie.Need-returns-2 Inv-loop μ-loop

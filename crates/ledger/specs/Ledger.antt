@@ -1,0 +1,89 @@
+-- Lists of calls, and the ledger that keeps their place and their sum of steps (document 01: the book of places and sums).
+-- The ledger is fed the starting curve and the calls, and no answers.
+-- Assumes nothing.
+use mathlib.Core.Bool.{cond}
+use Prim.Native.Nat.{ℕ, suc, pred, _+_, suc-le-suc, zero-le}
+use lib.Dec.{eqb}
+use lib.IntN.{pos}
+use Rattle.rational.specs.Fraction.{Frac, _+ᶠ_, _*ᶠ_, whole, complement}
+use Rattle.curve.specs.declared.Curve.{Curve}
+use Rattle.curve.specs.declared.Refusal.{Refusal}
+use Rattle.curve.specs.declared.Subdivision.{Subdivision}
+use Rattle.curve.specs.Refusals.{parameterRefusal, raisingRefusal}
+use Rattle.curve.specs.Calls.{evaluated, subdivided, elevated}
+
+-- the piece that is kept of a cut
+pub data Piece : Type 0 where
+  left : Piece
+  right : Piece
+
+-- a call of the list: a reading at num/den, a cut at num/den with the piece kept, a raising; with any numbers
+pub data Call : Type 0 where
+  reading : ℕ → ℕ → Call
+  cut : ℕ → ℕ → Piece → Call
+  raising : Call
+
+-- ---- what the calls do
+
+abbrev pub kept : Piece → Subdivision → Curve
+kept left s = s .left
+kept right s = s .right
+
+-- the refusal that a call gives for the curve it gets
+abbrev pub refusalOf : Curve → Call → Refusal
+refusalOf c (reading num den) = evaluated c num den .refusal
+refusalOf c (cut num den piece) = subdivided c num den .refusal
+refusalOf c raising = elevated c .refusal
+
+-- the curve that a call would answer; a reading hands on the one it got
+abbrev pub answerOf : Curve → Call → Curve
+answerOf c (reading num den) = c
+answerOf c (cut num den piece) = kept piece (subdivided c num den)
+answerOf c raising = elevated c .curve
+
+-- what a call leaves; a refused one leaves the curve it got
+unfoldable pub leaves : Curve → Call → Curve
+leaves c call = cond (eqb (refusalOf c call .number) 0) (answerOf c call) c
+
+-- ---- the ledger
+
+pub record Ledger : Type 0 where
+  pub degree : ℕ
+  pub start : Frac
+  pub width : Frac
+  pub sum : ℕ
+
+unfoldable pub opened : Curve → Ledger
+opened c = record { degree = c .degree; start = whole (pos 0); width = whole (pos 1); sum = 0 }
+
+-- num/den; a den of 0 is refused before this is used
+unfoldable pub parameter : ℕ → ℕ → Frac
+parameter num den = record { upper = pos num; lower = suc (pred den); positive = suc-le-suc zero-le }
+
+-- the refusal, as what is fed and held tells it
+abbrev pub refused : Ledger → Call → Refusal
+refused l (reading num den) = parameterRefusal num den
+refused l (cut num den piece) = parameterRefusal num den
+refused l raising = raisingRefusal (l .degree)
+
+-- the place of t in the stretch that is left
+unfoldable pub placeOf : Ledger → Frac → Frac
+placeOf l t = l .start +ᶠ l .width *ᶠ t
+
+-- the ledger after an accepted call
+abbrev pub entered : Ledger → Call → Ledger
+entered l (reading num den) = l
+entered l (cut num den left) =
+    record { degree = l .degree; start = l .start; width = l .width *ᶠ parameter num den; sum = l .sum + l .degree }
+entered l (cut num den right) =
+    record {
+      degree = l .degree;
+      start = placeOf l (parameter num den);
+      width = l .width *ᶠ complement (parameter num den);
+      sum = l .sum + l .degree;
+    }
+entered l raising = record { degree = l .degree + 1; start = l .start; width = l .width; sum = l .sum + 1 }
+
+-- the ledger after any call; a refused one changes nothing
+unfoldable pub after : Ledger → Call → Ledger
+after l call = cond (eqb (refused l call .number) 0) (entered l call) l

@@ -1,0 +1,3 @@
+pub mod Ordinary
+pub mod Ledger
+pub mod Claim
