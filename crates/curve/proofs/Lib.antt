@@ -3,3 +3,17 @@ pub mod Machine
 pub mod Sides
 pub mod Counted
 pub mod Refused
+pub mod Places
+pub mod Stages
+pub mod Accepted
+pub mod Answers
+pub mod Points
+pub mod Pieces
+pub mod OhmsExact
+pub mod EndPoints
+pub mod EqualFractions
+pub mod PastUnread
+pub mod BoundsLeast
+pub mod ZeroPast
+pub mod RectSides
+pub mod EqualAnswers

@@ -5,6 +5,7 @@ use mathlib.Core.Bool.{Bool, true, false, cond}
 use Prim.Native.Nat.{ℕ, zero, suc, _+_, _-_, _≤_, _<_}
 use native.Mathlib.Numerals.{add-one}
 use native.Mathlib.Omega.{arith}
+use borrow.Author.Tests.{eq-eqb, ne-eqb}
 use lib.Dec.{eqb}
 use Rattle.curve.specs.declared.Refusal.{Refusal}
 use Rattle.curve.specs.declared.Curve.{Curve}
@@ -21,6 +22,13 @@ or-assoc a b c = go (eqb (a .number) 0) refl
     go : (t : Bool) → eqb (a .number) 0 ≡ t → ((a orElse b) orElse c) ≡ (a orElse (b orElse c))
     go true e = rw e
     go false e = rw (e, e)
+
+-- the first where it refuses, the second where it does not
+pub or-first : (a b : Refusal) → (a .number ≡ 0 → ⊥) → a ≡ (a orElse b)
+or-first a b h = rw (ne-eqb (a .number) 0 h)
+
+pub or-second : (a b : Refusal) → a .number ≡ 0 → b ≡ (a orElse b)
+or-second a b h = rw (eq-eqb (a .number) 0 h)
 
 -- an answer that is `none` itself where its number is 0
 abbrev pub Settled : Refusal → Type 0
@@ -93,5 +101,5 @@ pub passed-end : (c : Curve) (n k : ℕ) (unordered : Refusal) → n < k → Pas
 passed-end c n k unordered h p =
     let range : rangeRefusal c ≡ none = p .range ∙ first-end (λ i. sidesInRange (point c i)) 2 n k h in
     let order : orderRefusal c ≡ unordered =
-        p .order ∙ ap (λ (x : Refusal). unordered orElse x) (first-end (λ i. sidesOrdered (point c i)) 3 n k h) ∙ p .settled in
+    p .order ∙ ap (λ (x : Refusal). unordered orElse x) (first-end (λ i. sidesOrdered (point c i)) 3 n k h) ∙ p .settled in
     sym (ap (λ (x : Refusal). x orElse orderRefusal c) range ∙ order)

@@ -35,7 +35,7 @@ pub count-of : {z : ℤ} → Side z → Count z
 count-of {z} h =
     let (n, e) = ≤ℤ-difference (h .from) in
     let at : z +ℤ pos maxSide ≡ pos n = ap (λ (x : ℤ). x +ℤ pos maxSide) (sym e ∙ +ℤ-comm (negℤ (pos maxSide)) (pos n)) ∙ +ℤ-assoc (pos n) (negℤ (pos maxSide)) (pos maxSide)
-        ∙ +ℤ-idr (pos n) in
+    ∙ +ℤ-idr (pos n) in
     record {
       count = n;
       counts = at;

@@ -6,15 +6,16 @@ use mathlib.Core.Bool.{Bool, true, false, cond}
 use Prim.Native.Nat.{ℕ, suc, _+_, _≤_, _<_}
 use lib.IntN.{ℤ, pos, negℤ}
 use lib.Signed.{_≤ℤ_}
-use lib.ListN.{getD}
+use lib.Dec.{ltb}
+use lib.ListN.{length, getD}
 use Rattle.rational.specs.Rounding.{Rounding, down, up}
 use Rattle.curve.specs.declared.Interval.{Interval}
 use Rattle.curve.specs.declared.Rect.{Rect}
 use Rattle.curve.specs.declared.Curve.{Curve}
 use Rattle.curve.specs.declared.Refusal.{Refusal}
-use Rattle.curve.specs.Limits.{maxDegree, maxSide, maxDen}
+use Rattle.curve.specs.Limits.{maxDegree, places, maxSide, maxDen}
 use Rattle.curve.specs.Rect.{Coordinate, end, along, zeroRect}
-use Rattle.curve.specs.Curve.{point}
+use Rattle.curve.specs.Curve.{point, tabulate}
 use Rattle.curve.specs.Refusals.{none, refusal}
 
 -- a side within its range
@@ -46,10 +47,17 @@ pub record Ready (c : Curve) : Type 0 where
   pub few : c .degree ≤ maxDegree
   pub held : (k : ℕ) → k ≤ c .degree → Held (point c k)
 
+-- what one stage of m maps asks of the entries before it
+pub record Stage (m s t den : ℕ) (entries : List Rect) : Type 0 where
+  pub all : length entries ≡ places
+  pub room : m < places
+  pub held : (k : ℕ) → k ≤ m → Held (getD entries k zeroRect)
+  pub factors : Factors s t den
+
 -- one stage in place: the first m entries are maps of neighbours, and the others are kept
-pub record Staged (m : ℕ) (map : Rect → Rect → Rect) (before after : List Rect) : Type 0 where
-  pub mapped : (k : ℕ) → k < m → getD after k zeroRect ≡ map (getD before k zeroRect) (getD before (suc k) zeroRect)
-  pub kept : (k : ℕ) → m ≤ k → getD after k zeroRect ≡ getD before k zeroRect
+unfoldable pub staged : ℕ → (Rect → Rect → Rect) → List Rect → List Rect
+staged m map entries =
+    tabulate places (λ k. cond (ltb k m) (map (getD entries k zeroRect) (getD entries (suc k) zeroRect)) (getD entries k zeroRect))
 
 -- the refusal of one rectangle's order
 abbrev pub orderRefusalAt : Bool → ℕ → Refusal

@@ -8,8 +8,9 @@ ghost use Rattle.bernstein.specs.Affine.{affine};
 ghost use Rattle.curve.specs.Rect.{affineInterval, affineRect};
 ghost use Rattle.curve.specs.Inner.{Side, Sides, Held, Factors, roundingOf};
 ghost use Rattle.curve.specs.Limits.{maxSide};
-
-use crate::{Interval, MAX_SIDE, Rect};
+use crate::Interval;
+use crate::MAX_SIDE;
+use crate::Rect;
 
 // The side as a natural number, counted from the least side.
 fn raised(side: i32) -> u64

@@ -6,8 +6,14 @@ ghost use Rattle.curve.specs.Limits.{maxDegree};
 ghost use Rattle.curve.specs.Refusals.{curveRefusal, parameterRefusal, rangeRefusal, orderRefusal, _orElse_};
 ghost use Rattle.curve.specs.Inner.{orderRefusalAt};
 ghost use Rattle.curve.specs.Calls.{callRefusal};
-
-use crate::{Curve, Interval, MAX_DEGREE, MAX_DEN, MAX_SIDE, MIN_SIDE, Rect, Refusal};
+use crate::Curve;
+use crate::Interval;
+use crate::MAX_DEGREE;
+use crate::MAX_DEN;
+use crate::MAX_SIDE;
+use crate::MIN_SIDE;
+use crate::Rect;
+use crate::Refusal;
 
 fn in_range(side: i32) -> bool
     ensures { λ r. ⌜ r ≡ inRange side ⌝ }
@@ -52,10 +58,7 @@ fn order_refusal(earlier: Refusal, p: Rect, place: usize) -> Refusal
             place: 0,
         };
     }
-    Refusal {
-        number: 3,
-        place,
-    }
+    Refusal { number: 3, place }
 }
 
 // Refusals 2 and 3 in one pass: a side out of range ends it, and the first low above its high is kept for the end.

@@ -2,8 +2,8 @@
 ghost use mathlib.Core.Path.{_≡_};
 ghost use Rattle.curve.specs.Inner.{Side, Held};
 ghost use Rattle.curve.specs.Ohms.{ohm, ohmsOf};
-
-use crate::{Ohms, Rect};
+use crate::Ohms;
+use crate::Rect;
 
 fn ohms_of_side(side: i32) -> f32
     requires { ⌜ Side side ⌝ }

@@ -3,8 +3,9 @@ ghost use mathlib.Core.Path.{_≡_};
 ghost use Rattle.curve.specs.Rect.{least, greatest, hullInterval, hull};
 ghost use Rattle.curve.specs.Curve.{boundsOf};
 ghost use Rattle.curve.specs.Inner.{Ready};
-
-use crate::{Curve, Interval, Rect};
+use crate::Curve;
+use crate::Interval;
+use crate::Rect;
 
 fn least_of(a: i32, b: i32) -> i32
     ensures { λ r. ⌜ r ≡ least a b ⌝ }

@@ -5,14 +5,16 @@ ghost use Rattle.curve.specs.Calls.{evaluated, subdivided, bounded};
 
 mod affine;
 mod checks;
-mod hull;
 mod display;
+mod hull;
 mod table;
 
-use checks::{call_refusal, curve_refusal};
-use hull::hull_of;
+use checks::call_refusal;
+use checks::curve_refusal;
 use display::ohms_of;
-use table::{table_of, zero_rect};
+use hull::hull_of;
+use table::table_of;
+use table::zero_rect;
 
 // The highest degree of a curve.
 pub const MAX_DEGREE: u32 = 8;
@@ -22,6 +24,7 @@ pub const PLACES: usize = 9;
 
 // The least and the largest side, in steps of 1/1,024 ohm.
 pub const MIN_SIDE: i32 = -16777216;
+
 pub const MAX_SIDE: i32 = 16777216;
 
 // The largest denominator of a parameter.

@@ -1,13 +1,15 @@
 // De Casteljau's table of a curve, from which the load and both pieces are read.
 ghost use mathlib.Core.Path.{_≡_};
-ghost use Prim.Native.Nat.{ℕ, _-_, _≤_, _<_};
-ghost use lib.ListN.{getD};
+ghost use Prim.Native.Nat.{_-_, _≤_};
 ghost use Rattle.curve.specs.Rect.{affineRect, zeroRect};
 ghost use Rattle.curve.specs.Curve.{pointsOf, point, leftOf, rightOf};
-ghost use Rattle.curve.specs.Inner.{Factors, Held, Ready, Staged};
-
+ghost use Rattle.curve.specs.Limits.{maxDegree};
+ghost use Rattle.curve.specs.Inner.{Factors, Ready, Stage, staged};
+use crate::Curve;
+use crate::Interval;
+use crate::PLACES;
+use crate::Rect;
 use crate::affine::affine_rect;
-use crate::{Curve, Interval, PLACES, Rect};
 
 // The control points of both pieces.
 pub struct Table {
@@ -19,38 +21,31 @@ pub fn zero_rect() -> Rect
     ensures { λ r. ⌜ r ≡ zeroRect ⌝ }
 {
     Rect {
-        resistance: Interval {
-            low: 0,
-            high: 0,
-        },
-        reactance: Interval {
-            low: 0,
-            high: 0,
-        },
+        resistance: Interval { low: 0, high: 0 },
+        reactance: Interval { low: 0, high: 0 },
     }
 }
 
 // The control points of the curve, and zero in the places past its degree.
 fn trimmed(c: Curve) -> [Rect; PLACES]
-    requires { ⌜ Ready c ⌝ }
+    requires { ⌜ c .degree ≤ maxDegree ⌝ }
     ensures { λ r. ⌜ r ≡ pointsOf (c .degree) (point c) ⌝ }
 {
     let n = c.degree as usize;
-    let mut points = c.points;
-    let mut k = n + 1;
-    while k < PLACES {
-        points[k] = zero_rect();
+    let mut points = [zero_rect(); PLACES];
+    points[0] = c.points[0];
+    let mut k = 0;
+    while k < n {
         k += 1;
+        points[k] = c.points[k];
     }
     points
 }
 
 // One stage in place: the first m entries become the maps of neighbours.
 fn stage(entries: [Rect; PLACES], m: usize, s: u64, t: u64, den: u64) -> [Rect; PLACES]
-    requires { ⌜ m < 9 ⌝ }
-    requires { ⌜ ((k : ℕ) → k ≤ m → Held (getD entries k zeroRect)) ⌝ }
-    requires { ⌜ Factors s t den ⌝ }
-    ensures { λ r. ⌜ Staged m (affineRect s t den) entries r ⌝ }
+    requires { ⌜ Stage m s t den entries ⌝ }
+    ensures { λ r. ⌜ r ≡ staged m (affineRect s t den) entries ⌝ }
 {
     let mut next = entries;
     let mut k = 0;
@@ -81,8 +76,5 @@ pub fn table_of(c: Curve, num: u32, den: u32) -> Table
         j += 1;
         left[j] = right[0];
     }
-    Table {
-        left,
-        right,
-    }
+    Table { left, right }
 }

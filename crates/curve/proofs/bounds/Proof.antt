@@ -1,31 +1,39 @@
+-- `bounds` meets its contract: a refusal with zeros, or the hull of an accepted curve.
+-- Assumes nothing.
+use mathlib.Core.Path.{_≡_, sym, ap, _∙_, subst}
 use borrow.Author.Needs.{needs}
+use borrow.Author.Tests.{ne-eqb}
+use Rattle.curve.specs.declared.Refusal.{Refusal}
+use Rattle.curve.specs.Refusals.{Accepted, curveRefusal}
+use Rattle.curve.proofs.Accepted.{number-accepted, accepted-ready}
+use Rattle.curve.proofs.Answers.{bounded-accepted, bounded-refused}
 use Rattle.curve.proofs.bounds.Statement.{statement}
 use Rattle.curve.proofs.bounds.Tie as tie
-use Rattle.curve.proofs.bounds.Reads as reads
-use Rattle.curve.proofs.bounds.Lts as lts
-use Rattle.curve.proofs.checks.curve_refusal.Reads as curve-refusal-reads
-use Rattle.curve.proofs.hull.hull_of.Reads as hull-of-reads
-use Rattle.curve.proofs.table.zero_rect.Reads as zero-rect-reads
 
--- src/lib.rt:148:9
 curve-refusal-requires : tie.Need-curve-refusal-requires
 curve-refusal-requires c κs = search needs
 
--- src/lib.rt:152:19
 zero-rect-requires : tie.Need-zero-rect-requires
 zero-rect-requires c κs = search needs
 
--- src/lib.rt:150:9
 returns : tie.Need-returns
-returns c = ?
+returns c =
+    let e = c .before .before .before .curve-refusal .ensures in
+    let a = c .before .before .before .before .args in
+    rw (c .zero-rect .ensures, e)
+    (sym (bounded-refused (a .c) (ne-eqb (curveRefusal (a .c) .number) 0 (subst (λ (r : Refusal). r .number ≡ 0 → ⊥) e (c .before .if1 .taken)))))
 
--- src/lib.rt:157:15
+-- past the test the curve is accepted
+accepted : (c : tie.Else1) → Accepted (c .before .before .before .args .c)
+accepted c = number-accepted (c .before .before .before .args .c) (subst (λ (r : Refusal). r .number ≡ 0) (c .before .before .curve-refusal .ensures) (c .if1 .left))
+
 hull-of-requires : tie.Need-hull-of-requires
-hull-of-requires c κs = ?
+hull-of-requires c κs = accepted-ready (c .before .before .before .args .c) (accepted c)
 
--- src/lib.rt:145:1
 returns-2 : tie.Need-returns-2
-returns-2 c = ?
+returns-2 c =
+    let ok = accepted (c .before) in
+    rw (c .hull-of .ensures, c .before .before .before .curve-refusal .ensures ∙ ok) (sym (bounded-accepted (c .before .before .before .before .args .c) ok))
 
 pub bounds-spec : {M : Type 1} → statement M
 bounds-spec =

@@ -1,39 +1,75 @@
+-- `evaluate` meets its contract: a refusal with zeros, or the last entry of the table and its ohms.
+-- Assumes nothing.
+use mathlib.Core.Path.{_≡_, sym, ap, _∙_, subst}
+use borrow.Author.Needs.{needs}
+use borrow.Author.Tests.{ne-eqb}
+use lib.Ieee.{ofInt, ofBits}
+use lib.ListN.{getD}
+use Rattle.curve.specs.declared.Refusal.{Refusal}
+use Rattle.curve.specs.declared.Rect.{Rect}
+use Rattle.curve.specs.Rect.{zeroRect}
+use Rattle.curve.specs.Curve.{loadOf}
+use Rattle.curve.specs.Ohms.{ohmsOf}
+use Rattle.curve.specs.Refusals.{none, Accepted, AcceptedAt}
+use Rattle.curve.specs.Calls.{callRefusal}
+use Rattle.curve.specs.Inner.{Held}
+use Rattle.curve.proofs.Accepted.{call-accepted, accepted-call, accepted-ready, parameter-facts}
+use Rattle.curve.proofs.Answers.{evaluated-accepted, evaluated-refused}
+use Rattle.curve.proofs.Pieces.{right-load, load-held}
 use Rattle.curve.proofs.evaluate.Statement.{statement}
 use Rattle.curve.proofs.evaluate.Tie as tie
-use Rattle.curve.proofs.evaluate.Reads as reads
-use Rattle.curve.proofs.evaluate.Lts as lts
-use Rattle.curve.proofs.checks.call_refusal.Reads as call-refusal-reads
-use Rattle.curve.proofs.display.ohms_of.Reads as ohms-of-reads
-use Rattle.curve.proofs.table.table_of.Reads as table-of-reads
-use Rattle.curve.proofs.table.zero_rect.Reads as zero-rect-reads
 
--- src/lib.rt:86:9
 call-refusal-requires : tie.Need-call-refusal-requires
-call-refusal-requires c κs = ?
+call-refusal-requires c κs = search needs
 
--- src/lib.rt:90:19
 zero-rect-requires : tie.Need-zero-rect-requires
-zero-rect-requires c κs = ?
+zero-rect-requires c κs = search needs
 
--- src/lib.rt:88:9
 returns : tie.Need-returns
-returns c = ?
+unfolding ofInt ofBits
+returns c =
+    let e = c .before .before .before .call-refusal .ensures in
+    let a = c .before .before .before .before .args in
+    rw (c .zero-rect .ensures, e)
+    (sym (evaluated-refused (a .c) (a .num) (a .den)
+    (ne-eqb (callRefusal (a .c) (a .num) (a .den) .number) 0 (subst (λ (r : Refusal). r .number ≡ 0 → ⊥) e (c .before .if1 .taken)))))
 
--- src/lib.rt:99:9
+-- past the test the curve and the parameter are accepted
+accepted : (c : tie.Else1) →
+    Accepted (c .before .before .before .args .c) × AcceptedAt (c .before .before .before .args .num) (c .before .before .before .args .den)
+accepted c =
+    let a = c .before .before .before .args in
+    call-accepted (a .c) (a .num) (a .den) (subst (λ (r : Refusal). r .number ≡ 0) (c .before .before .call-refusal .ensures) (c .if1 .left))
+
 table-of-requires : tie.Need-table-of-requires
-table-of-requires c κs = ?
+table-of-requires c κs =
+    let a = c .before .before .before .args in
+    (accepted-ready (a .c) (accepted c .0), parameter-facts (a .num) (a .den) (accepted c .1) .factors)
 
--- src/lib.rt:101:16
 array-copy-out-load : tie.Need-array-copy-out-load
-array-copy-out-load c = ?
+array-copy-out-load c = search needs
 
--- src/lib.rt:105:15
+-- the table's last entry is the load
+load : (c : tie.After-table-of) →
+    getD (c .table-of .result .right) 0 zeroRect ≡ loadOf (c .before .before .before .before .args .c) (c .before .before .before .before .args .num) (c .before .before .before .before .args .den)
+load c =
+    let a = c .before .before .before .before .args in
+    ap (λ l. getD l 0 zeroRect) (c .table-of .ensures .1) ∙ right-load (a .c) (a .num) (a .den) (accepted (c .before) .0)
+
 ohms-of-requires : tie.Need-ohms-of-requires
-ohms-of-requires c κs = ?
+ohms-of-requires c κs =
+    let t = c .before .before in
+    let a = t .before .before .before .before .args in
+    let ok = accepted (t .before) in
+    subst Held (sym (load t)) (load-held (a .c) (a .num) (a .den) (ok .0) (ok .1))
 
--- src/lib.rt:83:1
 returns-2 : tie.Need-returns-2
-returns-2 c = ?
+returns-2 c =
+    let t = c .before .before .before in
+    let a = t .before .before .before .before .args in
+    let ok = accepted (t .before) in
+    rw (c .ohms-of .ensures ∙ ap ohmsOf (load t), load t, t .before .before .before .call-refusal .ensures ∙ accepted-call (a .c) (a .num) (a .den) (ok .0) (ok .1))
+    (sym (evaluated-accepted (a .c) (a .num) (a .den) (ok .0) (ok .1)))
 
 pub evaluate-spec : {M : Type 1} → statement M
 evaluate-spec =

@@ -1,30 +1,52 @@
+-- `subdivide` meets its contract: a refusal with zero curves, or both pieces off the table.
+-- Assumes nothing.
+use mathlib.Core.Path.{_≡_, sym, ap, _∙_, subst}
+use borrow.Author.Needs.{needs}
+use borrow.Author.Tests.{ne-eqb}
+use Rattle.curve.specs.declared.Refusal.{Refusal}
+use Rattle.curve.specs.Curve.{leftOf, rightOf, pointsOf, tabulate}
+use Rattle.curve.specs.Refusals.{none, Accepted, AcceptedAt}
+use Rattle.curve.specs.Calls.{callRefusal}
+use Rattle.curve.proofs.Accepted.{call-accepted, accepted-call, accepted-ready, parameter-facts}
+use Rattle.curve.proofs.Answers.{subdivided-accepted, subdivided-refused}
 use Rattle.curve.proofs.subdivide.Statement.{statement}
 use Rattle.curve.proofs.subdivide.Tie as tie
-use Rattle.curve.proofs.subdivide.Reads as reads
-use Rattle.curve.proofs.subdivide.Lts as lts
-use Rattle.curve.proofs.checks.call_refusal.Reads as call-refusal-reads
-use Rattle.curve.proofs.table.table_of.Reads as table-of-reads
-use Rattle.curve.proofs.table.zero_rect.Reads as zero-rect-reads
 
--- src/lib.rt:113:9
 call-refusal-requires : tie.Need-call-refusal-requires
-call-refusal-requires c κs = ?
+call-refusal-requires c κs = search needs
 
--- src/lib.rt:115:21
 zero-rect-requires : tie.Need-zero-rect-requires
-zero-rect-requires c κs = ?
+zero-rect-requires c κs = search needs
 
--- src/lib.rt:116:9
 returns : tie.Need-returns
-returns c = ?
+unfolding pointsOf tabulate
+returns c =
+    let e = c .before .before .before .call-refusal .ensures in
+    let a = c .before .before .before .before .args in
+    rw (c .zero-rect .ensures, e)
+    (sym (subdivided-refused (a .c) (a .num) (a .den)
+    (ne-eqb (callRefusal (a .c) (a .num) (a .den) .number) 0 (subst (λ (r : Refusal). r .number ≡ 0 → ⊥) e (c .before .if1 .taken)))))
 
--- src/lib.rt:128:9
+-- past the test the curve and the parameter are accepted
+accepted : (c : tie.Else1) →
+    Accepted (c .before .before .before .args .c) × AcceptedAt (c .before .before .before .args .num) (c .before .before .before .args .den)
+accepted c =
+    let a = c .before .before .before .args in
+    call-accepted (a .c) (a .num) (a .den) (subst (λ (r : Refusal). r .number ≡ 0) (c .before .before .call-refusal .ensures) (c .if1 .left))
+
 table-of-requires : tie.Need-table-of-requires
-table-of-requires c κs = ?
+table-of-requires c κs =
+    let a = c .before .before .before .args in
+    (accepted-ready (a .c) (accepted c .0), parameter-facts (a .num) (a .den) (accepted c .1) .factors)
 
--- src/lib.rt:110:1
 returns-2 : tie.Need-returns-2
-returns-2 c = ?
+unfolding leftOf rightOf
+returns-2 c =
+    let t = c .before .before in
+    let a = t .before .before .before .before .args in
+    let ok = accepted (t .before) in
+    rw (t .table-of .ensures .0, t .table-of .ensures .1, t .before .before .before .call-refusal .ensures ∙ accepted-call (a .c) (a .num) (a .den) (ok .0) (ok .1))
+    (sym (subdivided-accepted (a .c) (a .num) (a .den) (ok .0) (ok .1)))
 
 pub subdivide-spec : {M : Type 1} → statement M
 subdivide-spec =

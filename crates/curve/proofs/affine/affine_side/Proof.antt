@@ -86,7 +86,7 @@ returns c =
     let m = c .before .before .before .raised in
     let n = c .before .before .raised2 in
     let quotient : c .lowered .result +ℤ pos maxSide ≡ pos ((a .s * m .result + a .t * n .result + liftOf (a .up) (a .den)) / a .den) =
-        c .lowered .ensures ∙ ap (λ (l : ℕ). pos ((a .s * m .result + a .t * n .result + l) / a .den)) (lifted j) in
+    c .lowered .ensures ∙ ap (λ (l : ℕ). pos ((a .s * m .result + a .t * n .result + l) / a .den)) (lifted j) in
     told (c .lowered .result) (c .lowered .ok)
     ∙ counted-side (a .up) (a .s) (a .t) (a .den) (m .result) (n .result) (a .a) (a .b) (j .before .pre .1 .1) (first (c .before .before .before)) (second (c .before .before)) (c .lowered .result) quotient
 

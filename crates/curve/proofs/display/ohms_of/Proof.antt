@@ -28,7 +28,7 @@ returns c =
       c .before .before .before .before .before .before .ohms-of-side .ensures ∙ ap ohm (side-back (held .at resistance .at down)),
       c .before .before .before .before .ohms-of-side2 .ensures ∙ ap ohm (side-back (held .at resistance .at up)),
       c .before .before .ohms-of-side3 .ensures ∙ ap ohm (side-back (held .at reactance .at down)),
-      c .ohms-of-side4 .ensures ∙ ap ohm (side-back (held .at reactance .at up))
+      c .ohms-of-side4 .ensures ∙ ap ohm (side-back (held .at reactance .at up)),
     )
 
 pub ohms-of-spec : {M : Type 1} → statement M

@@ -1,54 +1,64 @@
+-- `hull_of` meets its contract. The invariant: `held` is the hull of the points up to k. The measure is what is left of them.
+-- Assumes nothing.
+use mathlib.Core.Path.{_≡_, refl, ap, _∙_}
+use Prim.Native.Nat.{ℕ, suc, _+_, _-_, _≤_}
+use native.Mathlib.Numerals.{add-one}
+use native.Mathlib.Omega.{arith}
+use borrow.Author.Needs.{needs}
+use Rattle.curve.specs.declared.Rect.{Rect}
+use Rattle.curve.specs.Rect.{hull}
+use Rattle.curve.specs.Curve.{point, hullTo, boundsOf}
 use Rattle.curve.proofs.hull.hull_of.Statement.{statement}
 use Rattle.curve.proofs.hull.hull_of.Tie as tie
-use Rattle.curve.proofs.hull.hull_of.Reads as reads
-use Rattle.curve.proofs.hull.hull_of.Lts as lts
-use Rattle.curve.proofs.hull.hull_rect.Reads as hull-rect-reads
 
 abbrev Inv-loop : tie.InvT-loop
-Inv-loop c n held₀ k₀ held k = ?
+Inv-loop c n held₀ k₀ held k = (n ≤ 8) × (k ≤ n) × (held ≡ hullTo (point c) k)
 
 abbrev μ-loop : tie.MeasureT-loop
-μ-loop c n held₀ k₀ held k = ?
+μ-loop c n held₀ k₀ held k = n - k
 
--- src/hull.rt:43:13
+hull-next : (P : ℕ → Rect) (k : ℕ) → hull (hullTo P k) (P (k + 1)) ≡ hullTo P (k + 1)
+unfolding hullTo
+hull-next P k = rw (add-one k)
+
 cast-n : tie.Need-cast-n Inv-loop μ-loop
-cast-n c = ?
+cast-n c = omega (arith, c .pre .few)
 
--- src/hull.rt:44:20
 element-copy-out-held : tie.Need-element-copy-out-held Inv-loop μ-loop
-element-copy-out-held c = ?
+element-copy-out-held c = search needs
 
--- src/hull.rt:46:5
 loop-holds : tie.Need-loop-holds Inv-loop μ-loop
-loop-holds c = ?
+unfolding hullTo
+loop-holds c = (c .before .pre .few, omega arith, refl)
 
--- src/hull.rt:47:9
 add-k : tie.Need-add-k Inv-loop μ-loop
-add-k c = ?
+add-k c = omega arith
 
--- src/hull.rt:48:17
 mul-p : tie.Need-mul-p Inv-loop μ-loop
-mul-p c = ?
+mul-p c = omega arith
 
--- src/hull.rt:48:17
 element-copy-out-p : tie.Need-element-copy-out-p Inv-loop μ-loop
-element-copy-out-p c = ?
+element-copy-out-p c = omega arith
 
--- src/hull.rt:49:9
 hull-rect-requires : tie.Need-hull-rect-requires Inv-loop μ-loop
-hull-rect-requires c κs = ?
+hull-rect-requires c κs = search needs
 
--- src/hull.rt:46:5
 loop-less : tie.Need-loop-less Inv-loop μ-loop
-loop-less c = ?
+loop-less c = omega arith
 
--- src/hull.rt:46:5
 loop-again : tie.Need-loop-again Inv-loop μ-loop
-loop-again c = ?
+loop-again c =
+    let l = c .before .before .before .loop in
+    let P = point (c .before .before .before .before .before .args .t1) in
+    (l .inv .0, omega arith, c .hull-rect .ensures ∙ ap (λ (p : Rect). hull p (P (l .k + 1))) (l .inv .2) ∙ hull-next P (l .k))
 
--- src/hull.rt:39:1
 returns : tie.Need-returns Inv-loop μ-loop
-returns c = ?
+unfolding boundsOf
+returns c =
+    let l = c .before .loop in
+    let a = c .before .before .before .args .t1 in
+    let done : l .k ≡ a .degree = omega arith in
+    l .inv .2 ∙ ap (hullTo (point a)) done
 
 pub hull-of-spec : {M : Type 1} → statement M
 hull-of-spec =

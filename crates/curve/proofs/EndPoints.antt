@@ -1,0 +1,80 @@
+-- A point whose weight is the whole divisor is kept exactly, so the reading at 0/den is control point 0, and at den/den control point n.
+-- Assumes nothing.
+use mathlib.Core.Path.{_≡_, sym, ap, _∙_}
+use mathlib.Core.Bool.{Bool, _&&_}
+use Prim.Native.Nat.{ℕ, zero, suc, _+_, _<_}
+use native.Mathlib.Nat.{le-refl, sub-zero, sub-self, zero-add, add-zero, add-suc, suc-add}
+use lib.Dec.{leb, leb·zero}
+use borrow.Author.Tests.{le-leb}
+use lib.IntN.{ℤ, pos, _+ℤ_, _*ℤ_, zero-*ℤ, *ℤ-comm, +ℤ-idr, +ℤ-idl}
+use Rattle.rational.specs.Rounding.{Rounding, quotient}
+use Rattle.rational.proofs.Quotient.{quotient-exact}
+use Rattle.bernstein.specs.Affine.{affine}
+use Rattle.bernstein.specs.DeCasteljau.{table, value}
+use Rattle.bernstein.proofs.Table.{table-zero, table-suc}
+use Rattle.curve.specs.declared.Rect.{Rect}
+use Rattle.curve.specs.declared.Curve.{Curve}
+use Rattle.curve.specs.declared.Evaluation.{Evaluation}
+use Rattle.curve.specs.Limits.{maxDen}
+use Rattle.curve.specs.Rect.{side, affineRect}
+use Rattle.curve.specs.Curve.{point, mapAt, loadOf}
+use Rattle.curve.specs.Promises.{EndPoints}
+use Rattle.curve.specs.Refusals.{_orElse_, unless, parameterRefusal, AcceptedAt}
+use Rattle.curve.proofs.Accepted.{parameter-facts}
+use Rattle.curve.proofs.Answers.{evaluated-accepted}
+use Rattle.curve.proofs.RectSides.{affine-rect-is}
+
+module _ (d : ℕ) (positive : 0 < d) where
+  affine-first : (r : Rounding) (a b : ℤ) → affine r d 0 d a b ≡ a
+  unfolding affine
+  affine-first r a b =
+      ap (λ (x : ℤ). quotient r (pos d *ℤ a +ℤ x) d) (zero-*ℤ b)
+      ∙ ap (λ (x : ℤ). quotient r x d) (+ℤ-idr (pos d *ℤ a) ∙ *ℤ-comm (pos d) a)
+      ∙ quotient-exact d positive r a
+
+  affine-second : (r : Rounding) (a b : ℤ) → affine r 0 d d a b ≡ b
+  unfolding affine
+  affine-second r a b =
+      ap (λ (x : ℤ). quotient r (x +ℤ pos d *ℤ b) d) (zero-*ℤ a)
+      ∙ ap (λ (x : ℤ). quotient r x d) (+ℤ-idl (pos d *ℤ b) ∙ *ℤ-comm (pos d) b)
+      ∙ quotient-exact d positive r b
+
+  pub affine-rect-first : (p q : Rect) → affineRect d 0 d p q ≡ p
+  affine-rect-first p q = affine-rect-is d 0 d p q p (λ x r. affine-first r (side x r p) (side x r q))
+
+  affine-rect-second : (p q : Rect) → affineRect 0 d d p q ≡ q
+  affine-rect-second p q = affine-rect-is 0 d d p q q (λ x r. affine-second r (side x r p) (side x r q))
+
+-- a map that keeps its first point, or its second, keeps the first point of all, or the last
+module _ {A : Type 0} (map : A → A → A) (P : ℕ → A) where
+  table-keeps-first : ((a b : A) → map a b ≡ a) → (j k : ℕ) → table map P j k ≡ P k
+  table-keeps-first keeps zero k = table-zero map P k
+  table-keeps-first keeps (suc j) k = table-suc map P j k ∙ keeps (table map P j k) (table map P j (suc k)) ∙ table-keeps-first keeps j k
+
+  table-keeps-second : ((a b : A) → map a b ≡ b) → (j k : ℕ) → table map P j k ≡ P (j + k)
+  table-keeps-second keeps zero k = table-zero map P k ∙ ap P (sym (zero-add k))
+  table-keeps-second keeps (suc j) k = table-suc map P j k ∙ keeps (table map P j k) (table map P j (suc k)) ∙ table-keeps-second keeps j (suc k) ∙ ap P (add-suc j k ∙ sym (suc-add j k))
+
+module _ (c : Curve) (den : ℕ) (positive : 0 < den) where
+  load-first : loadOf c 0 den ≡ point c 0
+  unfolding loadOf value
+  load-first = table-keeps-first (mapAt 0 den) (point c) (λ p q. rw sub-zero (affine-rect-first den positive p q)) (c .degree) 0
+
+  load-last : loadOf c den den ≡ point c (c .degree)
+  unfolding loadOf value
+  load-last =
+      table-keeps-second (mapAt den den) (point c) (λ p q. rw sub-self (affine-rect-second den positive p q)) (c .degree) 0
+      ∙ ap (point c) (add-zero (c .degree))
+
+-- num = 0 is accepted where num = den is
+start-accepted : (den : ℕ) → AcceptedAt den den → AcceptedAt 0 den
+unfolding parameterRefusal
+start-accepted den h =
+    ap (λ (b : Bool). unless (leb 1 den && leb den maxDen) 4 orElse unless b 5) (leb·zero den ∙ sym (le-leb den den (le-refl den))) ∙ h
+
+pub end-points : EndPoints
+end-points c den a h =
+    let positive = parameter-facts den den h .factors .positive in (
+      ap (λ (x : Evaluation). x .load) (evaluated-accepted c 0 den a (start-accepted den h)) ∙ load-first c den positive,
+      ap (λ (x : Evaluation). x .load) (evaluated-accepted c den den a h) ∙ load-last c den positive,
+    )

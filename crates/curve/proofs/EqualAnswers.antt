@@ -1,0 +1,45 @@
+-- Equal refusals and equal results give equal answers, and a record's places depend only on the points as far as the degree.
+-- Assumes nothing.
+use mathlib.Core.Path.{_≡_, refl, ap, ap₂, fun-ext}
+use mathlib.Core.Bool.{Bool, true, false, cond}
+use Prim.Native.Nat.{ℕ, _≤_}
+use lib.Dec.{T, leb, eqb, leb→le}
+use Rattle.curve.specs.declared.Rect.{Rect}
+use Rattle.curve.specs.declared.Curve.{Curve}
+use Rattle.curve.specs.declared.Refusal.{Refusal}
+use Rattle.curve.specs.Limits.{places}
+use Rattle.curve.specs.Rect.{zeroRect}
+use Rattle.curve.specs.Curve.{tabulate, pointsOf, curveOf, zeroCurve, loadOf, leftOf, rightOf, raisedOf, boundsOf}
+use Rattle.curve.specs.Refusals.{curveRefusal}
+use Rattle.curve.specs.Calls.{callRefusal, elevationRefusal, evaluated, subdivided, elevated, bounded}
+use Rattle.curve.proofs.Answers.{evaluation, noEvaluation, subdivision, elevation, enclosure}
+
+module _ (c e : Curve) (num den num′ den′ : ℕ) (refusals : callRefusal c num den ≡ callRefusal e num′ den′) where
+  pub evaluated-equal : loadOf c num den ≡ loadOf e num′ den′ → evaluated c num den ≡ evaluated e num′ den′
+  unfolding evaluated
+  evaluated-equal = ap₂ (λ (r : Refusal) (p : Rect). cond (eqb (r .number) 0) (evaluation p r) (noEvaluation r)) refusals
+
+  pub subdivided-equal :
+      leftOf c num den ≡ leftOf e num′ den′ → rightOf c num den ≡ rightOf e num′ den′ → subdivided c num den ≡ subdivided e num′ den′
+  unfolding subdivided
+  subdivided-equal p q i =
+      let r : Refusal = refusals i in
+      cond (eqb (r .number) 0) (subdivision (p i) (q i) r) (subdivision zeroCurve zeroCurve r)
+
+module _ (c e : Curve) where
+  pub elevated-equal : elevationRefusal c ≡ elevationRefusal e → raisedOf c ≡ raisedOf e → elevated c ≡ elevated e
+  unfolding elevated
+  elevated-equal = ap₂ (λ (r : Refusal) (a : Curve). cond (eqb (r .number) 0) (elevation a r) (elevation zeroCurve r))
+
+  pub bounded-equal : curveRefusal c ≡ curveRefusal e → boundsOf c ≡ boundsOf e → bounded c ≡ bounded e
+  unfolding bounded
+  bounded-equal = ap₂ (λ (r : Refusal) (p : Rect). cond (eqb (r .number) 0) (enclosure p r) (enclosure zeroRect r))
+
+-- curves of one degree whose points agree as far as that degree
+pub curveOf-equal : (n : ℕ) (f g : ℕ → Rect) → ((k : ℕ) → k ≤ n → f k ≡ g k) → curveOf n f ≡ curveOf n g
+unfolding pointsOf
+curveOf-equal n f g agree = ap (λ (h : ℕ → Rect). record { degree = n; points = tabulate places h }) (fun-ext (λ k. at k (leb k n) (leb→le k n)))
+  where
+    at : (k : ℕ) (b : Bool) → (T b → k ≤ n) → cond b (f k) zeroRect ≡ cond b (g k) zeroRect
+    at k true h = agree k (h tt)
+    at k false h = refl

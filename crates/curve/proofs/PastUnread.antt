@@ -1,0 +1,116 @@
+-- Equal curves give equal answers: whatever is computed from a degree n and control points is the same for points that agree as far as n.
+-- Assumes nothing.
+use mathlib.Core.Path.{_≡_, refl, sym, ap, ap₂, _∙_, subst}
+use mathlib.Core.Bool.{Bool, cond, _&&_}
+use mathlib.Core.Logic.{_⊎_, inl, inr}
+use Prim.Native.Nat.{ℕ, zero, suc, _+_, _-_, _≤_, _<_}
+use native.Mathlib.Nat.{le-refl, sub-self, eq-or-lt-of-le}
+use native.Mathlib.Omega.{arith}
+use lib.Dec.{leb}
+use Rattle.bernstein.specs.DeCasteljau as DeCasteljau
+use Rattle.bernstein.proofs.Table.{table-agree}
+use Rattle.curve.specs.declared.Rect.{Rect}
+use Rattle.curve.specs.declared.Curve.{Curve}
+use Rattle.curve.specs.declared.Refusal.{Refusal}
+use Rattle.curve.specs.Limits.{maxDegree}
+use Rattle.curve.specs.Rect.{sidesInRange, sidesOrdered, affineRect, hull}
+use Rattle.curve.specs.Curve.{point, SameCurve, curveOf, mapAt, loadOf, leftOf, rightOf, raisedPoint, raisedOf, hullTo, boundsOf}
+use Rattle.curve.specs.Refusals.{refusal, _orElse_, unless, firstFailing, rangeRefusal, orderRefusal, curveRefusal, parameterRefusal, raisingRefusal}
+use Rattle.curve.specs.Calls.{callRefusal, elevationRefusal}
+use Rattle.curve.specs.Promises.{PastUnread}
+use Rattle.curve.proofs.EndPoints.{affine-rect-first}
+use Rattle.curve.proofs.EqualAnswers.{curveOf-equal, evaluated-equal, subdivided-equal, elevated-equal, bounded-equal}
+
+-- points that agree as far as n
+abbrev Agree : ℕ → (ℕ → Rect) → (ℕ → Rect) → Type 0
+Agree n P Q = (k : ℕ) → k ≤ n → P k ≡ Q k
+
+-- the first failing place is found within the places looked at
+first-agree :
+    (ok ok′ : ℕ → Bool) (number m from : ℕ) → ((k : ℕ) → k < from + m → ok k ≡ ok′ k) →
+    firstFailing ok number m from ≡ firstFailing ok′ number m from
+unfolding firstFailing
+first-agree ok ok′ number zero from h = refl
+first-agree ok ok′ number (suc m) from h =
+    ap₂ (λ (b : Bool) (r : Refusal). cond b r (refusal number from)) (h from (omega arith))
+    (first-agree ok ok′ number m (suc from) (λ k l. h k (omega arith)))
+
+-- the curve's refusal, from its degree and points
+curveRefusalAt : ℕ → (ℕ → Rect) → Refusal
+curveRefusalAt n P =
+    unless (leb 1 n && leb n maxDegree) 1
+    orElse firstFailing (λ k. sidesInRange (P k)) 2 (n + 1) 0
+    orElse firstFailing (λ k. sidesOrdered (P k)) 3 (n + 1) 0
+
+module _ (n : ℕ) {P Q : ℕ → Rect} (agree : Agree n P Q) where
+  first-of : (ok : Rect → Bool) (number : ℕ) → firstFailing (λ k. ok (P k)) number (n + 1) 0 ≡ firstFailing (λ k. ok (Q k)) number (n + 1) 0
+  first-of ok number = first-agree (λ k. ok (P k)) (λ k. ok (Q k)) number (n + 1) 0 (λ k l. ap ok (agree k (omega arith)))
+
+  refusal-agree : curveRefusalAt n P ≡ curveRefusalAt n Q
+  unfolding curveRefusalAt
+  refusal-agree = ap₂ (λ (a b : Refusal). unless (leb 1 n && leb n maxDegree) 1 orElse a orElse b) (first-of sidesInRange 2) (first-of sidesOrdered 3)
+
+  left-agree : (map : Rect → Rect → Rect) → curveOf n (DeCasteljau.left map P) ≡ curveOf n (DeCasteljau.left map Q)
+  unfolding DeCasteljau.left
+  left-agree map = curveOf-equal n (DeCasteljau.left map P) (DeCasteljau.left map Q) (λ k l. table-agree map n agree k 0 (omega arith))
+
+  right-agree : (map : Rect → Rect → Rect) → curveOf n (DeCasteljau.right map P n) ≡ curveOf n (DeCasteljau.right map Q n)
+  unfolding DeCasteljau.right
+  right-agree map = curveOf-equal n (DeCasteljau.right map P n) (DeCasteljau.right map Q n) (λ k l. table-agree map n agree (n - k) k (omega arith))
+
+  -- the point past the degree has weight 0
+  raised-point-agree : (k : ℕ) → k ≤ n + 1 → raisedPoint n P k ≡ raisedPoint n Q k
+  unfolding raisedPoint
+  raised-point-agree k h = go (eq-or-lt-of-le h)
+    where
+      edge : (R : ℕ → Rect) → affineRect (n + 1) (n + 1 - (n + 1)) (n + 1) (R (n + 1 - 1)) (R (n + 1)) ≡ R n
+      edge R =
+          let last : n + 1 - 1 ≡ n = omega arith in
+          ap₂ (λ (t : ℕ) (p : Rect). affineRect (n + 1) t (n + 1) p (R (n + 1))) (sub-self (n + 1)) (ap R last)
+          ∙ affine-rect-first (n + 1) (omega arith) (R n) (R (n + 1))
+
+      go : (k ≡ n + 1) ⊎ (k < n + 1) → raisedPoint n P k ≡ raisedPoint n Q k
+      go (inl e) =
+          subst (λ (j : ℕ). raisedPoint n P j ≡ raisedPoint n Q j) (sym e)
+          (edge P ∙ agree n (le-refl n) ∙ sym (edge Q))
+      go (inr l) = ap₂ (affineRect k (n + 1 - k) (n + 1)) (agree (k - 1) (omega arith)) (agree k (omega arith))
+
+  raised-agree : curveOf (n + 1) (raisedPoint n P) ≡ curveOf (n + 1) (raisedPoint n Q)
+  raised-agree = curveOf-equal (n + 1) (raisedPoint n P) (raisedPoint n Q) raised-point-agree
+
+  load-agree : (map : Rect → Rect → Rect) → DeCasteljau.value map P n ≡ DeCasteljau.value map Q n
+  unfolding DeCasteljau.value
+  load-agree map = table-agree map n agree n 0 (omega arith)
+
+hull-agree : (n : ℕ) {P Q : ℕ → Rect} → Agree n P Q → hullTo P n ≡ hullTo Q n
+unfolding hullTo
+hull-agree zero agree = agree 0 (le-refl 0)
+hull-agree (suc n) agree = ap₂ hull (hull-agree n (λ k l. agree k (omega arith))) (agree (suc n) (le-refl (suc n)))
+
+module _ (c e : Curve) (same : SameCurve c e) where
+  -- the degree is the same too
+  unread : {A : Type 0} (F : ℕ → (ℕ → Rect) → A) → F (c .degree) (point c) ≡ F (c .degree) (point e) → F (c .degree) (point c) ≡ F (e .degree) (point e)
+  unread F h = h ∙ ap (λ (n : ℕ). F n (point e)) (same .degrees)
+
+  refusals : curveRefusal c ≡ curveRefusal e
+  unfolding curveRefusal rangeRefusal orderRefusal curveRefusalAt
+  refusals = unread curveRefusalAt (refusal-agree (c .degree) (same .controls))
+
+  call-refusals : (num den : ℕ) → callRefusal c num den ≡ callRefusal e num den
+  unfolding callRefusal
+  call-refusals num den = ap (λ (r : Refusal). r orElse parameterRefusal num den) refusals
+
+pub past-unread : PastUnread
+unfolding elevationRefusal loadOf leftOf rightOf raisedOf boundsOf
+past-unread c e same =
+    let n = c .degree in
+    let agree = same .controls in (
+      λ num den. evaluated-equal c e num den num den (call-refusals c e same num den)
+          (unread c e same (λ m P. DeCasteljau.value (mapAt num den) P m) (load-agree n agree (mapAt num den))),
+      λ num den. subdivided-equal c e num den num den (call-refusals c e same num den)
+          (unread c e same (λ m P. curveOf m (DeCasteljau.left (mapAt num den) P)) (left-agree n agree (mapAt num den)))
+          (unread c e same (λ m P. curveOf m (DeCasteljau.right (mapAt num den) P m)) (right-agree n agree (mapAt num den))),
+      elevated-equal c e (ap₂ (λ (r : Refusal) (m : ℕ). r orElse raisingRefusal m) (refusals c e same) (same .degrees))
+          (unread c e same (λ m P. curveOf (m + 1) (raisedPoint m P)) (raised-agree n agree)),
+      bounded-equal c e (refusals c e same) (unread c e same (λ m P. hullTo P m) (hull-agree n agree)),
+    )
