@@ -1,10 +1,10 @@
 -- Laws of reading and writing a column at an offset.
 -- Assumes nothing.
 use Prim.Native.Nat.{ℕ, _+_, _-_, _≤_, _<_}
-use native.Mathlib.Nat.{le-refl, le-of-eq}
+use native.Mathlib.Nat.{le-of-eq}
 use native.Mathlib.Omega.{arith}
 use mathlib.Core.Bool.{Bool, true, false, cond, and-false, false≢true}
-use mathlib.Core.List.{List, [], _∷_, _++_, append-assoc, append-nil}
+use mathlib.Core.List.{List, [], _++_, append-assoc, append-nil}
 use mathlib.Core.Path.{_≡_, refl, sym, ap, _∙_}
 use lib.Dec.{leb}
 use lib.IntN.{ℤ}
@@ -12,7 +12,6 @@ use lib.ListN.{length, take, drop, length-take, length-drop, drop-of-length-le}
 use lib.Seq.{take-all, take-length, drop-drop}
 use borrow.Author.Tests.{leb-false}
 use Rattle.columns.specs.Column.{column, fitsColumn, decode, sameBytes, readBytes, readAt, putAt, canPut, afterPut}
-use Rattle.columns.specs.declared.Column.{Column}
 use Rattle.columns.specs.declared.Column.the-variants.{Number, Malformed}
 use Rattle.columns.proofs.Decode.{same-eq, same-refl, column-long, fits-of-ten}
 

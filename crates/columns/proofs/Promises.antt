@@ -9,8 +9,7 @@ use lib.IntN.{ℤ}
 use lib.ListN.{length, getD, take, drop, length-append, length-take, length-drop, take-append-drop, List·getD-append}
 use lib.Seq.{length-take-le, take-at, drop-at, getD-take, getD-drop, getD-append-add, take-add}
 use Rattle.columns.specs.Column.{column, fitsColumn, readAt, putAt}
-use Rattle.columns.specs.declared.Column.the-variants.{Number}
-use Rattle.columns.specs.Promises.{FitsIsWidth, ColumnIsTen, WrittenReads, Accepted, ReadIsWritten, Kept, PutKeeps, ReadsTen}
+use Rattle.columns.specs.Promises.{FitsIsWidth, ColumnIsTen, WrittenReads, ReadIsWritten, PutKeeps, ReadsTen}
 use Rattle.columns.proofs.Digits.{fits-width}
 use Rattle.columns.proofs.Decode.{column-ten, column-long, fits-of-ten, read-column-bytes, read-number}
 

@@ -93,7 +93,7 @@ fn magnitude(value: i64) -> u64
 fn last_digit(m: u64) -> u8
     ensures { λ r. ⌜ r ≡ 48 + m % 10 ⌝ }
 {
-    48 + (m % 10) as u8
+    b'0' + (m % 10) as u8
 }
 
 // The ten bytes of a number's column: the digits from the last one back, then the minus.
@@ -102,7 +102,7 @@ fn column_of(value: i64) -> [u8; 10]
     ensures { λ r. ⌜ r ≡ column value ⌝ }
 {
     let m = magnitude(value);
-    let mut b = [32u8; 10];
+    let mut b = [b' '; 10];
     b[9] = last_digit(m);
     let mut first: usize = 9;
     let mut rest = m / 10;
@@ -112,7 +112,7 @@ fn column_of(value: i64) -> [u8; 10]
         rest = rest / 10;
     }
     if value < 0 {
-        b[first - 1] = 45;
+        b[first - 1] = b'-';
     }
     b
 }
@@ -121,10 +121,10 @@ fn column_of(value: i64) -> [u8; 10]
 fn digit(byte: u8) -> u64
     ensures { λ r. ⌜ r ≡ byte - 48 ⌝ }
 {
-    if byte < 48 {
+    if byte < b'0' {
         return 0;
     }
-    (byte - 48) as u64
+    (byte - b'0') as u64
 }
 
 // The number whose digits the bytes are.
@@ -147,7 +147,7 @@ fn has_minus(b: &[u8]) -> bool
 {
     let mut i = 0;
     while i < b.len() {
-        if b[i] == 45 {
+        if b[i] == b'-' {
             return true;
         }
         i += 1;

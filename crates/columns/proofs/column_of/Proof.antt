@@ -1,8 +1,8 @@
 -- `columns::column_of` meets its contract. The loop's invariant: the bytes are filled from the right so far. The measure is what is left of the number.
 -- Assumes nothing.
-use mathlib.Core.Path.{_≡_, _∙_}
+use mathlib.Core.Path.{_≡_}
 use mathlib.Core.Bool.{true}
-use Prim.Native.Nat.{ℕ, _<_, _≤_}
+use Prim.Native.Nat.{_<_}
 use lib.IntN.{natAbs, pos}
 use lib.Signed.{ltZ}
 use native.Mathlib.Omega.{arith}
@@ -12,10 +12,6 @@ use mir.ValLaws.{toZ-ofZ}
 use Rattle.columns.proofs.Filling.{Filled, start, space-left, turn, digits-short, space-for-minus, column-positive, column-negative}
 use Rattle.columns.proofs.column_of.Statement.{statement}
 use Rattle.columns.proofs.column_of.Tie as tie
-use Rattle.columns.proofs.column_of.Reads as reads
-use Rattle.columns.proofs.column_of.Lts as lts
-use Rattle.columns.proofs.last_digit.Reads as last-digit-reads
-use Rattle.columns.proofs.magnitude.Reads as magnitude-reads
 
 abbrev Inv-loop : tie.InvT-loop
 Inv-loop value m b₀ first₀ rest₀ b first rest = Filled m b first rest
@@ -23,19 +19,15 @@ Inv-loop value m b₀ first₀ rest₀ b first rest = Filled m b first rest
 abbrev μ-loop : tie.MeasureT-loop
 μ-loop value m b₀ first₀ rest₀ b first rest = rest
 
--- src/lib.rt:96:9
 magnitude-requires : tie.Need-magnitude-requires Inv-loop μ-loop
 magnitude-requires c κs = rw (toZ-ofZ w64 (c .args .value) (c .fits .value)) (c .pre)
 
--- src/lib.rt:98:12
 last-digit-requires : tie.Need-last-digit-requires Inv-loop μ-loop
 last-digit-requires c κs = search needs
 
--- src/lib.rt:98:5
 array-write-b : tie.Need-array-write-b Inv-loop μ-loop
 array-write-b c = search needs
 
--- src/lib.rt:101:5
 loop-holds : tie.Need-loop-holds Inv-loop μ-loop
 loop-holds c = rw (c .last-digit .ensures) (start (c .before .magnitude .result))
 
@@ -52,23 +44,18 @@ space c =
     let l = c .before .loop in
     space-left (natAbs (s .args .value)) (l .b) (l .first) (l .rest) (filled (c .before)) (digits-short (s .args .value) (s .pre)) (c .loop-test .taken)
 
--- src/lib.rt:102:9
 sub-first : tie.Need-sub-first Inv-loop μ-loop
 sub-first c = space c
 
--- src/lib.rt:103:20
 last-digit-requires-2 : tie.Need-last-digit-requires-2 Inv-loop μ-loop
 last-digit-requires-2 c κs = search needs
 
--- src/lib.rt:103:9
 array-write-b-2 : tie.Need-array-write-b-2 Inv-loop μ-loop
 array-write-b-2 c = omega (arith, c .before .before .loop .inv .width)
 
--- src/lib.rt:101:5
 loop-less : tie.Need-loop-less Inv-loop μ-loop
 loop-less c = search needs
 
--- src/lib.rt:101:5
 loop-again : tie.Need-loop-again Inv-loop μ-loop
 loop-again c =
     let l = c .before .before .loop in
@@ -85,22 +72,18 @@ space-2 c =
     let l = c .before .before .loop in
     space-for-minus (s .args .value) (l .b) (l .first) (l .rest) (filled (c .before .before)) (c .before .loop-test .left) (s .pre) (negative c)
 
--- src/lib.rt:107:11
 sub-b : tie.Need-sub-b Inv-loop μ-loop
 sub-b c = space-2 c
 
--- src/lib.rt:107:9
 array-write-b-3 : tie.Need-array-write-b-3 Inv-loop μ-loop
 array-write-b-3 c = omega (arith, c .before .before .loop .inv .width)
 
--- src/lib.rt:92:1
 returns : tie.Need-returns Inv-loop μ-loop
 returns c =
     let s = c .before .before .before .before .before in
     let l = c .before .before .loop in
     column-negative (s .args .value) (l .b) (l .first) (l .rest) (filled (c .before .before)) (c .before .loop-test .left) (negative c) (space-2 c)
 
--- src/lib.rt:92:1
 returns-2 : tie.Need-returns-2 Inv-loop μ-loop
 returns-2 c =
     let s = c .before .before .before .before .before in

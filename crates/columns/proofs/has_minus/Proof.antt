@@ -11,8 +11,6 @@ use Rattle.columns.specs.Column.{hasMinus}
 use Rattle.columns.proofs.Decode.{next-minus}
 use Rattle.columns.proofs.has_minus.Statement.{statement}
 use Rattle.columns.proofs.has_minus.Tie as tie
-use Rattle.columns.proofs.has_minus.Reads as reads
-use Rattle.columns.proofs.has_minus.Lts as lts
 
 abbrev Inv-loop : tie.InvT-loop
 Inv-loop b i₀ i = (i ≤ length b) × (hasMinus (drop i b) ≡ hasMinus b)

@@ -1,9 +1,8 @@
 -- `columns::magnitude` meets its contract.
 -- Assumes nothing.
 use native.Mathlib.Omega.{arith}
-use mathlib.Core.Path.{_≡_, _∙_}
-use mathlib.Core.Bool.{true}
-use lib.IntN.{ℤ, pos, natAbs, _-ℤ_}
+use mathlib.Core.Path.{_≡_}
+use lib.IntN.{pos, natAbs, _-ℤ_}
 use mir.Syntax.{w64}
 use mir.Val.{SFits, toZ, ofZ}
 use mir.ValLaws.{toZ-ofZ}

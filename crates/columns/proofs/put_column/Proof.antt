@@ -10,17 +10,11 @@ use mir.Syntax.{w64}
 use mir.ValLaws.{toZ-ofZ}
 use borrow.Author.Needs.{needs}
 use borrow.Author.Tests.{leb-true, not-true, not-false}
-use Rattle.columns.specs.Column.{column, fitsColumn, putAt, canPut}
+use Rattle.columns.specs.Column.{column, fitsColumn, putAt}
 use Rattle.columns.proofs.Decode.{column-ten}
 use Rattle.columns.proofs.Offset.{not-put, no-room, no-fit, can-put, put-done, copied}
 use Rattle.columns.proofs.put_column.Statement.{statement}
 use Rattle.columns.proofs.put_column.Tie as tie
-use Rattle.columns.proofs.put_column.Reads as reads
-use Rattle.columns.proofs.put_column.Lts as lts
-use Rattle.bytes.proofs.copy.Reads as copy-reads
-use Rattle.columns.proofs.column_of.Reads as column-of-reads
-use Rattle.columns.proofs.fits_column.Reads as fits-column-reads
-use Rattle.columns.proofs.has_room.Reads as has-room-reads
 
 has-room-requires : tie.Need-has-room-requires
 has-room-requires c κs = search needs

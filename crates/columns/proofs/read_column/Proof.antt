@@ -2,29 +2,19 @@
 -- Assumes nothing.
 use Prim.Native.Nat.{ℕ, _+_, _≤_, _-_}
 use native.Mathlib.Omega.{arith}
-use mathlib.Core.Bool.{true, false≢true}
+use mathlib.Core.Bool.{false≢true}
 use mathlib.Core.List.{List}
-use mathlib.Core.Path.{_≡_, sym, ap, _∙_}
-use lib.Dec.{leb}
-use lib.ListN.{length, take, drop, length-take, length-drop}
+use mathlib.Core.Path.{_≡_, sym, _∙_}
+use lib.ListN.{length, take, drop, length-take}
 use mir.Syntax.{w64}
 use mir.Val.{toZ, ofZ}
 use mir.ValLaws.{toZ-ofZ}
 use borrow.Author.Needs.{needs}
 use borrow.Author.Tests.{leb-true, not-true, not-false}
-use Rattle.columns.specs.Column.{column, fitsColumn, decode, readAt}
+use Rattle.columns.specs.Column.{column, decode, readAt}
 use Rattle.columns.proofs.Offset.{too-short, too-long, malformed, well-formed}
 use Rattle.columns.proofs.read_column.Statement.{statement}
 use Rattle.columns.proofs.read_column.Tie as tie
-use Rattle.columns.proofs.read_column.Reads as reads
-use Rattle.columns.proofs.read_column.Lts as lts
-use Rattle.check.proofs.same.Reads as same-reads
-use Rattle.columns.proofs.column_of.Reads as column-of-reads
-use Rattle.columns.proofs.fits_column.Reads as fits-column-reads
-use Rattle.columns.proofs.has_minus.Reads as has-minus-reads
-use Rattle.columns.proofs.has_room.Reads as has-room-reads
-use Rattle.columns.proofs.signed_value.Reads as signed-value-reads
-use Rattle.columns.proofs.value_of.Reads as value-of-reads
 
 has-room-requires : tie.Need-has-room-requires
 has-room-requires c κs = search needs

@@ -12,9 +12,6 @@ use Rattle.columns.specs.Column.{valueAfter}
 use Rattle.columns.proofs.Decode.{next-value}
 use Rattle.columns.proofs.value_of.Statement.{statement}
 use Rattle.columns.proofs.value_of.Tie as tie
-use Rattle.columns.proofs.value_of.Reads as reads
-use Rattle.columns.proofs.value_of.Lts as lts
-use Rattle.columns.proofs.digit.Reads as digit-reads
 
 abbrev Inv-loop : tie.InvT-loop
 Inv-loop b m₀ i₀ m i = (i ≤ length b) × (valueAfter m (drop i b) ≡ valueAfter 0 b) × (m + 23 ≤ 23 * 10 ^ i)
@@ -22,26 +19,21 @@ Inv-loop b m₀ i₀ m i = (i ≤ length b) × (valueAfter m (drop i b) ≡ valu
 abbrev μ-loop : tie.MeasureT-loop
 μ-loop b m₀ i₀ m i = length b - i
 
--- src/lib.rt:129:5
 loop-holds : tie.Need-loop-holds Inv-loop μ-loop
 loop-holds c = search needs
 
--- src/lib.rt:130:13
 bounded : (m i : ℕ) → m + 23 ≤ 23 * 10 ^ i → i ≤ 10 → m < 2 ^ 40
 bounded m i h l = omega (arith, pow-le-pow-right {n = 10} (lit< tt) l)
 
 mul-m : tie.Need-mul-m Inv-loop μ-loop
 mul-m c = omega (arith, bounded (c .before .loop .m) (c .before .loop .i) (c .before .loop .inv .2) (omega arith))
 
--- src/lib.rt:130:28
 shared-slice-read-digit : tie.Need-shared-slice-read-digit Inv-loop μ-loop
 shared-slice-read-digit c = search needs
 
--- src/lib.rt:130:22
 digit-requires : tie.Need-digit-requires Inv-loop μ-loop
 digit-requires c κs = search needs
 
--- src/lib.rt:130:13
 -- the digit of a byte
 byte : (c : tie.After-digit Inv-loop μ-loop) → c .digit .result < 208
 byte c = omega (arith, c .digit .ensures, c .before .shared-slice-known2 .given (c .before .before .before .loop .i))
@@ -51,15 +43,12 @@ add-m c =
     let l = c .before .before .before .loop in
     omega (arith, bounded (l .m) (l .i) (l .inv .2) (omega arith), byte c)
 
--- src/lib.rt:131:9
 add-i : tie.Need-add-i Inv-loop μ-loop
 add-i c = search needs
 
--- src/lib.rt:129:5
 loop-less : tie.Need-loop-less Inv-loop μ-loop
 loop-less c = search needs
 
--- src/lib.rt:129:5
 loop-again : tie.Need-loop-again Inv-loop μ-loop
 loop-again c =
     let b = c .before .before .before .before .before .args .b .now in
@@ -67,7 +56,6 @@ loop-again c =
     let e = next-value (l .m) b (l .i) (c .before .before .loop-test .taken) in
     (search needs, rw (c .digit .ensures) (sym e ∙ l .inv .1), rw add-one (omega (arith, l .inv .2, pow-suc 10 (l .i), byte c)))
 
--- src/lib.rt:123:1
 returns : tie.Need-returns Inv-loop μ-loop
 unfolding valueAfter
 returns c =
