@@ -101,6 +101,7 @@ fn column_of(value: i64) -> [u8; 10]
     requires { ⌜ fitsColumn value ≡ true ⌝ }
     ensures { λ r. ⌜ r ≡ column value ⌝ }
 {
+    let negative = value < 0;
     let m = magnitude(value);
     let mut b = [b' '; 10];
     b[9] = last_digit(m);
@@ -111,7 +112,7 @@ fn column_of(value: i64) -> [u8; 10]
         b[first] = last_digit(rest);
         rest = rest / 10;
     }
-    if value < 0 {
+    if negative {
         b[first - 1] = b'-';
     }
     b

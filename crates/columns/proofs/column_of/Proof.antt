@@ -14,10 +14,10 @@ use Rattle.columns.proofs.column_of.Statement.{statement}
 use Rattle.columns.proofs.column_of.Tie as tie
 
 abbrev Inv-loop : tie.InvT-loop
-Inv-loop value m b₀ first₀ rest₀ b first rest = Filled m b first rest
+Inv-loop value negative m b₀ first₀ rest₀ b first rest = Filled m b first rest
 
 abbrev μ-loop : tie.MeasureT-loop
-μ-loop value m b₀ first₀ rest₀ b first rest = rest
+μ-loop value negative m b₀ first₀ rest₀ b first rest = rest
 
 magnitude-requires : tie.Need-magnitude-requires Inv-loop μ-loop
 magnitude-requires c κs = rw (toZ-ofZ w64 (c .args .value) (c .fits .value)) (c .pre)
