@@ -11,10 +11,10 @@ use lib.IntN.{ℤ, pos, negsuc}
 use lib.ListN.{length, getD, drop, replicate, length-append, length-replicate}
 use lib.Seq.{drop-cons}
 use lib.Dec.{eqb}
-use borrow.Author.Tests.{leb-true, le-leb, eqb-true, eq-eqb, ne-eqb}
+use borrow.Author.Tests.{le-leb, eqb-true, eq-eqb, ne-eqb}
 use Rattle.columns.specs.Column.{digitsBefore, digits, text, column, fitsColumn, valueAfter, hasMinus, signed, decode, sameBytes, readBytes}
 use Rattle.columns.specs.declared.Column.the-variants.{Number, Malformed}
-use Rattle.columns.proofs.Digits.{fits-width}
+use Rattle.columns.proofs.Digits.{fits-width, text-short}
 
 -- digits are read back as their number
 value-digitsBefore : (f n : ℕ) (bytes : List ℕ) → n ≤ f → valueAfter 0 (digitsBefore f n bytes) ≡ valueAfter n bytes
@@ -78,10 +78,11 @@ decode-column z = spaces ∙ decode-text z
     spaces : decode (column z) ≡ decode (text z)
     spaces = unfold decode column in rw (minus-spaces, value-spaces)
 
-both : (p q : Bool) → (p && q) ≡ true → (p ≡ true) × (q ≡ true)
+pub both : (p q : Bool) → (p && q) ≡ true → (p ≡ true) × (q ≡ true)
 both true q e = (refl, e)
 both false q e = absurd (false≢true e)
 
+-- the test of equality
 pub same-refl : (bytes : List ℕ) → sameBytes bytes bytes ≡ true
 unfolding sameBytes
 same-refl [] = refl
@@ -106,7 +107,7 @@ column-long z = simp (length-append, length-replicate) (omega arith)
 pub column-ten : (z : ℤ) → fitsColumn z ≡ true → length (column z) ≡ 10
 unfolding column
 column-ten z h =
-    let w : length (text z) ≤ 10 = leb-true (length (text z)) 10 (sym (fits-width z) ∙ h) in
+    let w = text-short z h in
     simp (length-append, length-replicate) (omega arith)
 
 pub fits-of-ten : (z : ℤ) → length (column z) ≤ 10 → fitsColumn z ≡ true

@@ -5,7 +5,7 @@ use native.Mathlib.Nat.{not-suc-le-zero, le-refl, pow-suc, one-le-pow}
 use native.Mathlib.Omega.{arith}
 use mathlib.Core.Bool.{Bool, true, false}
 use mathlib.Core.List.{List, [], _∷_}
-use mathlib.Core.Path.{_≡_, refl}
+use mathlib.Core.Path.{_≡_, refl, sym, _∙_}
 use lib.IntN.{ℤ, pos, negsuc}
 use lib.ListN.{length}
 use lib.Dec.{leb, lit<}
@@ -29,7 +29,7 @@ unfolding digitsBefore
 next-digit zero bytes h = absurd (not-suc-le-zero h)
 next-digit (suc n) bytes h = limit-free n (suc n / 10) (suc n / 10) ((48 + suc n % 10) ∷ bytes) (omega arith) (le-refl _)
 
--- the first bytes stay
+-- no byte is lost, and while the number is not 0 one is added
 grows : (f n : ℕ) (bytes : List ℕ) → length bytes ≤ length (digitsBefore f n bytes)
 unfolding digitsBefore
 grows zero n bytes = le-refl _
@@ -63,6 +63,7 @@ small (suc k) (suc f) (suc n) bytes hf h =
     let r = small k f (suc n / 10) ((48 + suc n % 10) ∷ bytes) (omega arith) (omega arith) in
     omega arith
 
+-- the same of all the digits of n
 digits-few : (k n : ℕ) → n < 10 ^ suc k → length (digits n) ≤ suc k
 unfolding digits
 digits-few k n h =
@@ -95,3 +96,6 @@ fits-width (negsuc n) =
     tests-agree (suc n) 999999999 (suc (length (digits (suc n)))) 10
     (λ h. let r = digits-few 8 (suc n) (omega arith) in omega arith)
     (λ h. let r = digits-small 8 (suc n) (omega arith) in omega arith)
+
+pub text-short : (z : ℤ) → fitsColumn z ≡ true → length (text z) ≤ 10
+text-short z h = leb-true (length (text z)) 10 (sym (fits-width z) ∙ h)

@@ -10,9 +10,9 @@ use mathlib.Core.Path.{_≡_, refl, sym, ap, _∙_}
 use lib.IntN.{ℤ, pos, negsuc, natAbs}
 use lib.Signed.{ltZ}
 use lib.ListN.{length, set, replicate}
-use borrow.Author.Tests.{leb-true, ltb-true}
+use borrow.Author.Tests.{ltb-true}
 use Rattle.columns.specs.Column.{digitsBefore, digits, text, column, fitsColumn}
-use Rattle.columns.proofs.Digits.{limit-free, next-digit, grows-more, fits-width}
+use Rattle.columns.proofs.Digits.{limit-free, next-digit, grows-more, text-short}
 
 -- `first` spaces, then bytes before which the digits of `rest` complete those of m
 pub record Filled (m : ℕ) (bytes : List ℕ) (first rest : ℕ) : Type 0 where
@@ -21,6 +21,7 @@ pub record Filled (m : ℕ) (bytes : List ℕ) (first rest : ℕ) : Type 0 where
   pub width : first + length done ≡ 10
   pub completed : digitsBefore rest rest done ≡ digits m
 
+-- before the first turn, with the last digit stored
 pub start : (m : ℕ) → Filled m (set (replicate 10 32) 9 (48 + m % 10)) 9 (m / 10)
 start m =
     record {
@@ -47,6 +48,7 @@ module _ (m : ℕ) (bytes : List ℕ) (first rest : ℕ) (F : Filled m bytes fir
   pub space-left : length (digits m) ≤ 10 → 0 < rest → 0 < first
   space-left short more = omega (arith, grows-more rest (F .done) more, ap length (F .completed), F .width)
 
+  -- one turn stores one digit
   pub turn : 0 < rest → 0 < first → Filled m (set bytes (first - 1) (48 + rest % 10)) (first - 1) (rest / 10)
   turn more space =
       record {
@@ -62,18 +64,16 @@ unfolding digitsBefore
 ended m bytes first zero F h = F .completed
 ended m bytes first (suc rest) F h = absurd (not-suc-le-zero h)
 
-text-positive : (z : ℤ) → ltZ z (pos 0) ≡ false → text z ≡ digits (natAbs z)
+-- the text by the test of the sign
+text-not-negative : (z : ℤ) → ltZ z (pos 0) ≡ false → text z ≡ digits (natAbs z)
 unfolding text
-text-positive (pos n) h = refl
-text-positive (negsuc n) h = absurd (true≢false h)
+text-not-negative (pos n) h = refl
+text-not-negative (negsuc n) h = absurd (true≢false h)
 
 text-negative : (z : ℤ) → ltZ z (pos 0) ≡ true → text z ≡ 45 ∷ digits (natAbs z)
 unfolding text
 text-negative (pos n) h = absurd (not-suc-le-zero (ltb-true n 0 h))
 text-negative (negsuc n) h = refl
-
-text-short : (z : ℤ) → fitsColumn z ≡ true → length (text z) ≤ 10
-text-short z h = leb-true (length (text z)) 10 (sym (fits-width z) ∙ h)
 
 pub digits-short : (z : ℤ) → fitsColumn z ≡ true → length (digits (natAbs z)) ≤ 10
 unfolding text
@@ -86,12 +86,12 @@ module _ (z : ℤ) (bytes : List ℕ) (first rest : ℕ) (F : Filled (natAbs z) 
   space-for-minus fit neg =
       omega (arith, F .width, ap length (ended (natAbs z) bytes first rest F h), text-short z fit, ap length (text-negative z neg))
 
-  pub column-positive : ltZ z (pos 0) ≡ false → bytes ≡ column z
+  pub column-not-negative : ltZ z (pos 0) ≡ false → bytes ≡ column z
   unfolding column
-  column-positive not-neg =
+  column-not-negative not-neg =
       let e = ended (natAbs z) bytes first rest F h in
       let n : 10 - length (F .done) ≡ first = omega (arith, F .width) in
-      rw (text-positive z not-neg, ← e, n) (F .spaced)
+      rw (text-not-negative z not-neg, ← e, n) (F .spaced)
 
   pub column-negative : ltZ z (pos 0) ≡ true → 0 < first → set bytes (first - 1) 45 ≡ column z
   unfolding column

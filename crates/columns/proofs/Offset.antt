@@ -10,10 +10,10 @@ use lib.Dec.{leb}
 use lib.IntN.{ℤ}
 use lib.ListN.{length, take, drop, length-take, length-drop, drop-of-length-le}
 use lib.Seq.{take-all, take-length, drop-drop}
-use borrow.Author.Tests.{leb-false}
+use borrow.Author.Tests.{leb-true, leb-false}
 use Rattle.columns.specs.Column.{column, fitsColumn, decode, sameBytes, readBytes, readAt, putAt, canPut, afterPut}
 use Rattle.columns.specs.declared.Column.the-variants.{Number, Malformed}
-use Rattle.columns.proofs.Decode.{same-eq, same-refl, column-long, fits-of-ten}
+use Rattle.columns.proofs.Decode.{both, same-eq, same-refl, column-long, fits-of-ten}
 
 -- bytes that are no column are malformed
 pub malformed : (bytes : List ℕ) → (column (decode bytes) ≡ bytes → ⊥) → Malformed ≡ readBytes bytes
@@ -57,6 +57,12 @@ no-fit bytes at z e = rw (e, and-false)
 pub can-put : (bytes : List ℕ) (at : ℕ) (z : ℤ) → leb (at + 10) (length bytes) ≡ true → fitsColumn z ≡ true → canPut bytes at z ≡ true
 unfolding canPut
 can-put bytes at z e f = rw (e, f)
+
+pub put-means : (bytes : List ℕ) (at : ℕ) (z : ℤ) → canPut bytes at z ≡ true → (at + 10 ≤ length bytes) × (fitsColumn z ≡ true)
+unfolding canPut
+put-means bytes at z e =
+    let h = both (leb (at + 10) (length bytes)) (fitsColumn z) e in
+    (leb-true (at + 10) (length bytes) (h .0), h .1)
 
 pub put-done : (bytes : List ℕ) (at : ℕ) (z : ℤ) → canPut bytes at z ≡ true → afterPut bytes at z ≡ putAt bytes at z
 unfolding afterPut

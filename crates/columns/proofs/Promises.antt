@@ -9,7 +9,7 @@ use lib.IntN.{ℤ}
 use lib.ListN.{length, getD, take, drop, length-append, length-take, length-drop, take-append-drop, List·getD-append}
 use lib.Seq.{length-take-le, take-at, drop-at, getD-take, getD-drop, getD-append-add, take-add}
 use Rattle.columns.specs.Column.{column, fitsColumn, readAt, putAt}
-use Rattle.columns.specs.Promises.{FitsIsWidth, ColumnIsTen, WrittenReads, ReadIsWritten, PutKeeps, ReadsTen}
+use Rattle.columns.specs.Promises.{FitsIsWidth, ColumnIsTen, ColumnReads, WrittenReads, ReadIsWritten, PutKeeps}
 use Rattle.columns.proofs.Digits.{fits-width}
 use Rattle.columns.proofs.Decode.{column-ten, column-long, fits-of-ten, read-column-bytes, read-number}
 
@@ -19,9 +19,9 @@ fits-is-width = fits-width
 pub column-is-ten : ColumnIsTen
 column-is-ten = column-ten
 
-pub reads-ten : ReadsTen
+pub column-reads : ColumnReads
 unfolding readAt
-reads-ten a b at at′ e = rw e
+column-reads bytes at z e = rw e (read-column-bytes z)
 
 module _ (bytes : List ℕ) (at : ℕ) (z : ℤ) (fits : fitsColumn z ≡ true) (room : at + 10 ≤ length bytes) where
   front : length (take at bytes) ≡ at
@@ -54,8 +54,7 @@ module _ (bytes : List ℕ) (at : ℕ) (z : ℤ) (fits : fitsColumn z ≡ true) 
       rw (← e, getD-append-add, head, getD-drop)
 
 pub written-reads : WrittenReads
-unfolding readAt
-written-reads bytes at z fits room = rw (put-ten bytes at z fits room) (read-column-bytes z)
+written-reads bytes at z fits room = column-reads (putAt bytes at z) at z (put-ten bytes at z fits room)
 
 pub put-keeps : PutKeeps
 put-keeps bytes at z fits room =

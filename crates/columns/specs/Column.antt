@@ -55,9 +55,9 @@ decode bytes = signed (hasMinus bytes) (valueAfter 0 bytes)
 -- whether two lists are equal
 unfoldable pub sameBytes : List ℕ → List ℕ → Bool
 sameBytes [] [] = true
-sameBytes [] (b ∷ bs) = false
-sameBytes (a ∷ as′) [] = false
-sameBytes (a ∷ as′) (b ∷ bs) = eqb a b && sameBytes as′ bs
+sameBytes [] (y ∷ ys) = false
+sameBytes (x ∷ xs) [] = false
+sameBytes (x ∷ xs) (y ∷ ys) = eqb x y && sameBytes xs ys
 
 -- the number that some bytes show if they are exactly its column
 unfoldable pub readBytes : List ℕ → Column

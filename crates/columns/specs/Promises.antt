@@ -18,6 +18,10 @@ FitsIsWidth = (z : ℤ) → fitsColumn z ≡ leb (length (text z)) 10
 abbrev pub ColumnIsTen : Type 0
 ColumnIsTen = (z : ℤ) → fitsColumn z ≡ true → length (column z) ≡ 10
 
+-- ten bytes that are a number's column are read as that number
+abbrev pub ColumnReads : Type 0
+ColumnReads = (bytes : List ℕ) (at : ℕ) (z : ℤ) → take 10 (drop at bytes) ≡ column z → readAt bytes at ≡ Number z
+
 -- what is written is read back
 abbrev pub WrittenReads : Type 0
 WrittenReads = (bytes : List ℕ) (at : ℕ) (z : ℤ) → fitsColumn z ≡ true → at + 10 ≤ length bytes → readAt (putAt bytes at z) at ≡ Number z
@@ -40,7 +44,3 @@ pub record Kept (bytes : List ℕ) (at : ℕ) (z : ℤ) : Type 0 where
 
 abbrev pub PutKeeps : Type 0
 PutKeeps = (bytes : List ℕ) (at : ℕ) (z : ℤ) → fitsColumn z ≡ true → at + 10 ≤ length bytes → Kept bytes at z
-
--- what is read depends on the ten bytes alone
-abbrev pub ReadsTen : Type 0
-ReadsTen = (a b : List ℕ) (at at′ : ℕ) → take 10 (drop at a) ≡ take 10 (drop at′ b) → readAt a at ≡ readAt b at′

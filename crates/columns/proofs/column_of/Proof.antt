@@ -9,7 +9,7 @@ use native.Mathlib.Omega.{arith}
 use borrow.Author.Needs.{needs}
 use mir.Syntax.{w64}
 use mir.ValLaws.{toZ-ofZ}
-use Rattle.columns.proofs.Filling.{Filled, start, space-left, turn, digits-short, space-for-minus, column-positive, column-negative}
+use Rattle.columns.proofs.Filling.{Filled, start, space-left, turn, digits-short, space-for-minus, column-not-negative, column-negative}
 use Rattle.columns.proofs.column_of.Statement.{statement}
 use Rattle.columns.proofs.column_of.Tie as tie
 
@@ -38,6 +38,7 @@ filled c =
     let e : c .before .before .magnitude .result ≡ natAbs (s .args .value) = rw (toZ-ofZ w64 (s .args .value) (s .fits .value)) at (c .before .before .magnitude .ensures) in
     rw (← e) (c .loop .inv)
 
+-- a space is left for a digit, and for the minus
 space : (c : tie.In-loop Inv-loop μ-loop) → 0 < c .before .loop .first
 space c =
     let s = c .before .before .before .before in
@@ -66,14 +67,14 @@ negative c =
     let s = c .before .before .before .before .before in
     rw (toZ-ofZ w64 (s .args .value) (s .fits .value)) at (c .if1 .taken)
 
-space-2 : (c : tie.Then1 Inv-loop μ-loop) → 0 < c .before .before .loop .first
-space-2 c =
+space-before : (c : tie.Then1 Inv-loop μ-loop) → 0 < c .before .before .loop .first
+space-before c =
     let s = c .before .before .before .before .before in
     let l = c .before .before .loop in
     space-for-minus (s .args .value) (l .b) (l .first) (l .rest) (filled (c .before .before)) (c .before .loop-test .left) (s .pre) (negative c)
 
 sub-b : tie.Need-sub-b Inv-loop μ-loop
-sub-b c = space-2 c
+sub-b c = space-before c
 
 array-write-b-3 : tie.Need-array-write-b-3 Inv-loop μ-loop
 array-write-b-3 c = omega (arith, c .before .before .loop .inv .width)
@@ -82,13 +83,13 @@ returns : tie.Need-returns Inv-loop μ-loop
 returns c =
     let s = c .before .before .before .before .before in
     let l = c .before .before .loop in
-    column-negative (s .args .value) (l .b) (l .first) (l .rest) (filled (c .before .before)) (c .before .loop-test .left) (negative c) (space-2 c)
+    column-negative (s .args .value) (l .b) (l .first) (l .rest) (filled (c .before .before)) (c .before .loop-test .left) (negative c) (space-before c)
 
 returns-2 : tie.Need-returns-2 Inv-loop μ-loop
 returns-2 c =
     let s = c .before .before .before .before .before in
     let l = c .before .before .loop in
-    column-positive (s .args .value) (l .b) (l .first) (l .rest) (filled (c .before .before)) (c .before .loop-test .left)
+    column-not-negative (s .args .value) (l .b) (l .first) (l .rest) (filled (c .before .before)) (c .before .loop-test .left)
     (rw (toZ-ofZ w64 (s .args .value) (s .fits .value)) at (c .if1 .left))
 
 pub column-of-spec : {M : Type 1} → statement M

@@ -1,4 +1,4 @@
--- `columns::value_of` meets its contract. The loop's invariant: going on from here gives the whole value, and i bytes give a bounded one. The measure is what is left of the length.
+-- `columns::value_of` meets its contract. The loop's invariant: going on from here gives the whole value, and m is bounded by the bytes read so far, each of which shows at most 207, or 9 × 23. The measure is what is left of the length.
 -- Assumes nothing.
 use Prim.Native.Nat.{ℕ, _≤_, _<_, _-_, _+_, _*_, _^_}
 use native.Mathlib.Nat.{pow-suc, pow-le-pow-right}
