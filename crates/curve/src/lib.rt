@@ -10,7 +10,8 @@ mod hull;
 mod table;
 
 use checks::call_refusal;
-use checks::curve_refusal;
+// Refusals 1 to 3 of a curve.
+pub use checks::curve_refusal;
 use display::ohms_of;
 use hull::hull_of;
 use table::table_of;
