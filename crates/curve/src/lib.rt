@@ -1,18 +1,7 @@
 // The load of an antenna across a band as an interval Bézier curve: records, and the calls that evaluate, subdivide and bound it.
 // Every call takes any record and any numbers, answers a refusal for bad input, and equals its definition in specs/Calls.antt.
-ghost use mathlib.Core.Path.{_≡_};
-ghost use Rattle.curve.specs.Calls.{evaluated, subdivided, bounded};
 
-mod affine;
-mod checks;
-mod hull;
-mod display;
-mod table;
 
-use checks::{call_refusal, curve_refusal};
-use hull::hull_of;
-use display::ohms_of;
-use table::{table_of, zero_rect};
 
 // The highest degree of a curve.
 pub const MAX_DEGREE: u32 = 8;
@@ -85,81 +74,3 @@ pub struct Enclosure {
     pub rect: Rect,
 }
 
-// The load at num/den: the last rectangle of de Casteljau's table, every stage rounded outward; refusals 1 to 5.
-pub fn evaluate(c: Curve, num: u32, den: u32) -> Evaluation
-    ensures { λ r. ⌜ r ≡ evaluated c num den ⌝ }
-{
-    let refusal = call_refusal(c, num, den);
-    if refusal.number != 0 {
-        return Evaluation {
-            refusal,
-            load: zero_rect(),
-            ohms: Ohms {
-                rlow: 0.0,
-                rhigh: 0.0,
-                xlow: 0.0,
-                xhigh: 0.0,
-            },
-        };
-    }
-    let table = table_of(c, num, den);
-    let last = table.right;
-    let load = last[0];
-    Evaluation {
-        refusal,
-        load,
-        ohms: ohms_of(load),
-    }
-}
-
-// The two pieces of the curve at num/den, from the same table; refusals 1 to 5.
-pub fn subdivide(c: Curve, num: u32, den: u32) -> Subdivision
-    ensures { λ r. ⌜ r ≡ subdivided c num den ⌝ }
-{
-    let refusal = call_refusal(c, num, den);
-    if refusal.number != 0 {
-        let none = [zero_rect(); PLACES];
-        return Subdivision {
-            refusal,
-            left: Curve {
-                degree: 0,
-                points: none,
-            },
-            right: Curve {
-                degree: 0,
-                points: none,
-            },
-        };
-    }
-    let table = table_of(c, num, den);
-    let left = table.left;
-    let right = table.right;
-    Subdivision {
-        refusal,
-        left: Curve {
-            degree: c.degree,
-            points: left,
-        },
-        right: Curve {
-            degree: c.degree,
-            points: right,
-        },
-    }
-}
-
-// The least rectangle that holds every control point; refusals 1 to 3.
-pub fn bounds(c: Curve) -> Enclosure
-    ensures { λ r. ⌜ r ≡ bounded c ⌝ }
-{
-    let refusal = curve_refusal(c);
-    if refusal.number != 0 {
-        return Enclosure {
-            refusal,
-            rect: zero_rect(),
-        };
-    }
-    Enclosure {
-        refusal,
-        rect: hull_of(c),
-    }
-}

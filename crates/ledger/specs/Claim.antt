@@ -38,11 +38,11 @@ Along c o l now (call ∷ calls) =
     (refusalOf now call ≡ refused l call) × AtCall c o l now call × Along c o (after l call) (leaves now call) calls
 
 -- demand 3
-pub Demand : Type 0
+abbrev pub Demand : Type 0
 Demand = (c : Curve) → Accepted c → (o : Ordinary) → InsideOf o c → (calls : List Call) → Along c o (opened c) c calls
 
 -- in the safety office's words, of one reading of one accepted curve: the load of every ordinary curve inside lies in the rectangle shown, and no side is more than the degree in steps beyond the exact one
-pub OneReading : Type 0
+abbrev pub OneReading : Type 0
 OneReading =
     (c : Curve) → Accepted c → (o : Ordinary) → InsideOf o c → (num den : ℕ) → AcceptedAt num den →
     Sound c o (parameter num den) (c .degree) (evaluated c num den .load)

@@ -1,0 +1,84 @@
+-- What is promised of the public calls beside their equations, over the definitions that their contracts cite.
+-- Assumes nothing.
+use mathlib.Core.Path.{_≡_}
+use mathlib.Core.Bool.{Bool, true, false}
+use Prim.Native.Nat.{ℕ, _+_, _*_, _≤_, _<_}
+use lib.Dec.{T}
+use lib.IntN.{ℤ, pos, negsuc, natAbs}
+use lib.Ieee.Exact.{HasValue}
+use Rattle.curve.specs.declared.Curve.{Curve}
+use Rattle.curve.specs.declared.Rect.{Rect}
+use Rattle.curve.specs.declared.Subdivision.{Subdivision}
+use Rattle.curve.specs.Limits.{maxDegree, places, stepsPerOhm}
+use Rattle.curve.specs.Rect.{Inside, inRange, zeroRect}
+use Rattle.curve.specs.Curve.{point, SameCurve}
+use Rattle.curve.specs.Refusals.{Accepted, AcceptedAt}
+use Rattle.curve.specs.Ohms.{ohm}
+use Rattle.curve.specs.Calls.{evaluated, subdivided, bounded, elevated}
+
+-- evaluation at 0/den is control point 0, and at den/den control point n
+abbrev pub EndPoints : Type 0
+EndPoints =
+    (c : Curve) (den : ℕ) → Accepted c → AcceptedAt den den →
+    (evaluated c 0 den .load ≡ point c 0) × (evaluated c den den .load ≡ point c (c .degree))
+
+-- equal fractions, both accepted, give equal answers
+abbrev pub EqualFractions : Type 0
+EqualFractions =
+    (c : Curve) (num den num′ den′ : ℕ) → AcceptedAt num den → AcceptedAt num′ den′ → num * den′ ≡ num′ * den →
+    (evaluated c num den ≡ evaluated c num′ den′) × (subdivided c num den ≡ subdivided c num′ den′)
+
+-- equal curves give equal answers: nothing past the degree is read
+abbrev pub PastUnread : Type 0
+PastUnread =
+    (c e : Curve) → SameCurve c e →
+    ((num den : ℕ) → evaluated c num den ≡ evaluated e num den)
+    × ((num den : ℕ) → subdivided c num den ≡ subdivided e num den)
+    × (elevated c ≡ elevated e)
+    × (bounded c ≡ bounded e)
+
+-- the pieces of an accepted curve
+pub record Pieces (c : Curve) (s : Subdivision) (load : Rect) : Type 0 where
+  pub leftAccepted : Accepted (s .left)
+  pub rightAccepted : Accepted (s .right)
+  pub leftDegree : s .left .degree ≡ c .degree
+  pub rightDegree : s .right .degree ≡ c .degree
+  pub leftLast : point (s .left) (c .degree) ≡ load
+  pub rightFirst : point (s .right) 0 ≡ load
+
+-- both pieces are accepted curves of the same degree, and the load is the left one's last and the right one's first control point
+abbrev pub GoodPieces : Type 0
+GoodPieces =
+    (c : Curve) (num den : ℕ) → Accepted c → AcceptedAt num den →
+    Pieces c (subdivided c num den) (evaluated c num den .load)
+
+-- the raised curve of an accepted curve below the highest degree is accepted, of degree n + 1
+abbrev pub GoodRaised : Type 0
+GoodRaised =
+    (c : Curve) → Accepted c → c .degree < maxDegree → Accepted (elevated c .curve) × (elevated c .curve .degree ≡ c .degree + 1)
+
+-- bounds holds every control point, and lies inside every rectangle that does
+abbrev pub LeastBounds : Type 0
+LeastBounds =
+    (c : Curve) → Accepted c →
+    ((k : ℕ) → k ≤ c .degree → Inside (point c k) (bounded c .rect))
+    × ((p : Rect) → ((k : ℕ) → k ≤ c .degree → Inside (point c k) p) → Inside (bounded c .rect) p)
+
+-- the load lies inside bounds
+abbrev pub LoadInBounds : Type 0
+LoadInBounds =
+    (c : Curve) (num den : ℕ) → Accepted c → AcceptedAt num den → Inside (evaluated c num den .load) (bounded c .rect)
+
+-- a curve that is answered has zero in every place past its degree
+abbrev pub ZeroPast : Type 0
+ZeroPast =
+    (c : Curve) (num den k : ℕ) → c .degree < k →
+    (point (subdivided c num den .left) k ≡ zeroRect) × (point (subdivided c num den .right) k ≡ zeroRect)
+
+abbrev pub negative : ℤ → Bool
+negative (pos n) = false
+negative (negsuc n) = true
+
+-- each ohm value is finite and exactly its side / 1,024, for every side in range
+abbrev pub ExactOhms : Type 0
+ExactOhms = (z : ℤ) → T (inRange z) → HasValue (ohm z) (negative z) (natAbs z) stepsPerOhm
