@@ -3,3 +3,5 @@ pub mod Machine
 pub mod Sides
 pub mod Counted
 pub mod Refused
+pub mod Accepted
+pub mod Answers

@@ -1,0 +1,108 @@
+-- The answers of the public calls by whether they are refused: the refusal, the results where number 0 says that nothing was refused, and zeros otherwise.
+-- Assumes nothing.
+use mathlib.Core.Path.{_≡_, refl, ap, subst, sym}
+use mathlib.Core.Bool.{Bool, true, false, cond}
+use Prim.Native.Nat.{ℕ, _<_}
+use lib.Dec.{T, eqb, eqb→eq}
+use Rattle.curve.specs.declared.Curve.{Curve}
+use Rattle.curve.specs.declared.Rect.{Rect}
+use Rattle.curve.specs.declared.Refusal.{Refusal}
+use Rattle.curve.specs.declared.Evaluation.{Evaluation}
+use Rattle.curve.specs.declared.Subdivision.{Subdivision}
+use Rattle.curve.specs.declared.Elevation.{Elevation}
+use Rattle.curve.specs.declared.Enclosure.{Enclosure}
+use Rattle.curve.specs.Limits.{maxDegree}
+use Rattle.curve.specs.Rect.{zeroRect}
+use Rattle.curve.specs.Curve.{zeroCurve, loadOf, leftOf, rightOf, raisedOf, boundsOf}
+use Rattle.curve.specs.Ohms.{ohmsOf, zeroOhms}
+use Rattle.curve.specs.Refusals.{none, curveRefusal, Accepted, AcceptedAt}
+use Rattle.curve.specs.Calls.{callRefusal, elevationRefusal, evaluated, subdivided, elevated, bounded}
+use Rattle.curve.proofs.Accepted.{accepted-call, accepted-elevation}
+
+-- a number that is not 0 fails the test
+pub not-zero : (n : ℕ) → ¬ (n ≡ 0) → eqb n 0 ≡ false
+not-zero n h = go (eqb n 0) refl
+  where
+    go : (b : Bool) → eqb n 0 ≡ b → eqb n 0 ≡ false
+    go true e = absurd (h (eqb→eq n 0 (subst T (sym e) tt)))
+    go false e = e
+
+-- an answer chosen by a refusal's number: its value where nothing is refused, where something is, and what both share
+module _ {A : Type 0} (result zeros : Refusal → A) (r : Refusal) where
+  where-none : r ≡ none → cond (eqb (r .number) 0) (result r) (zeros r) ≡ result none
+  where-none h = ap (λ (x : Refusal). cond (eqb (x .number) 0) (result x) (zeros x)) h
+
+  where-some : eqb (r .number) 0 ≡ false → cond (eqb (r .number) 0) (result r) (zeros r) ≡ zeros r
+  where-some h = ap (λ (b : Bool). cond b (result r) (zeros r)) h
+
+  in-both : {B : Type 0} (f : A → B) (y : B) → f (result r) ≡ y → f (zeros r) ≡ y → f (cond (eqb (r .number) 0) (result r) (zeros r)) ≡ y
+  in-both {B} f y h k = go (eqb (r .number) 0)
+    where
+      go : (b : Bool) → f (cond b (result r) (zeros r)) ≡ y
+      go true = h
+      go false = k
+
+abbrev pub evaluation : Rect → Refusal → Evaluation
+evaluation p r = record { refusal = r; load = p; ohms = ohmsOf p }
+
+abbrev pub noEvaluation : Refusal → Evaluation
+noEvaluation r = record { refusal = r; load = zeroRect; ohms = zeroOhms }
+
+abbrev pub subdivision : Curve → Curve → Refusal → Subdivision
+subdivision l r x = record { refusal = x; left = l; right = r }
+
+abbrev pub elevation : Curve → Refusal → Elevation
+elevation c r = record { refusal = r; curve = c }
+
+abbrev pub enclosure : Rect → Refusal → Enclosure
+enclosure p r = record { refusal = r; rect = p }
+
+module _ (c : Curve) (num den : ℕ) where
+  pub evaluated-accepted : Accepted c → AcceptedAt num den → evaluated c num den ≡ evaluation (loadOf c num den) none
+  unfolding evaluated
+  evaluated-accepted a b = where-none (evaluation (loadOf c num den)) noEvaluation (callRefusal c num den) (accepted-call c num den a b)
+
+  pub evaluated-refused : eqb (callRefusal c num den .number) 0 ≡ false → evaluated c num den ≡ noEvaluation (callRefusal c num den)
+  unfolding evaluated
+  evaluated-refused h = where-some (evaluation (loadOf c num den)) noEvaluation (callRefusal c num den) h
+
+  pub evaluated-refusal : evaluated c num den .refusal ≡ callRefusal c num den
+  unfolding evaluated
+  evaluated-refusal = in-both (evaluation (loadOf c num den)) noEvaluation (callRefusal c num den) (λ x. x .refusal) _ refl refl
+
+  pub subdivided-accepted : Accepted c → AcceptedAt num den → subdivided c num den ≡ subdivision (leftOf c num den) (rightOf c num den) none
+  unfolding subdivided
+  subdivided-accepted a b = where-none (subdivision (leftOf c num den) (rightOf c num den)) (subdivision zeroCurve zeroCurve) (callRefusal c num den) (accepted-call c num den a b)
+
+  pub subdivided-refused : eqb (callRefusal c num den .number) 0 ≡ false → subdivided c num den ≡ subdivision zeroCurve zeroCurve (callRefusal c num den)
+  unfolding subdivided
+  subdivided-refused h = where-some (subdivision (leftOf c num den) (rightOf c num den)) (subdivision zeroCurve zeroCurve) (callRefusal c num den) h
+
+  pub subdivided-refusal : subdivided c num den .refusal ≡ callRefusal c num den
+  unfolding subdivided
+  subdivided-refusal = in-both (subdivision (leftOf c num den) (rightOf c num den)) (subdivision zeroCurve zeroCurve) (callRefusal c num den) (λ x. x .refusal) _ refl refl
+
+module _ (c : Curve) where
+  pub elevated-accepted : Accepted c → c .degree < maxDegree → elevated c ≡ elevation (raisedOf c) none
+  unfolding elevated
+  elevated-accepted a h = where-none (elevation (raisedOf c)) (elevation zeroCurve) (elevationRefusal c) (accepted-elevation c a h)
+
+  pub elevated-refused : eqb (elevationRefusal c .number) 0 ≡ false → elevated c ≡ elevation zeroCurve (elevationRefusal c)
+  unfolding elevated
+  elevated-refused h = where-some (elevation (raisedOf c)) (elevation zeroCurve) (elevationRefusal c) h
+
+  pub elevated-refusal : elevated c .refusal ≡ elevationRefusal c
+  unfolding elevated
+  elevated-refusal = in-both (elevation (raisedOf c)) (elevation zeroCurve) (elevationRefusal c) (λ x. x .refusal) _ refl refl
+
+  pub bounded-accepted : Accepted c → bounded c ≡ enclosure (boundsOf c) none
+  unfolding bounded
+  bounded-accepted a = where-none (enclosure (boundsOf c)) (enclosure zeroRect) (curveRefusal c) a
+
+  pub bounded-refused : eqb (curveRefusal c .number) 0 ≡ false → bounded c ≡ enclosure zeroRect (curveRefusal c)
+  unfolding bounded
+  bounded-refused h = where-some (enclosure (boundsOf c)) (enclosure zeroRect) (curveRefusal c) h
+
+  pub bounded-refusal : bounded c .refusal ≡ curveRefusal c
+  unfolding bounded
+  bounded-refusal = in-both (enclosure (boundsOf c)) (enclosure zeroRect) (curveRefusal c) (λ x. x .refusal) _ refl refl
