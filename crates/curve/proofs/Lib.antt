@@ -5,3 +5,5 @@ pub mod Counted
 pub mod Refused
 pub mod Accepted
 pub mod Answers
+pub mod Points
+pub mod Pieces
