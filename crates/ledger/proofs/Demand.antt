@@ -31,6 +31,7 @@ pub record Kept (c : Curve) (l : Ledger) (now : Curve) : Type 0 where
   pub degrees : now .degree ≡ l .degree
   pub stretch : Stretch (rat (l .start)) (rat (l .width)) (l .sum) c now
 
+-- it holds at the start
 pub opened-kept : (c : Curve) → Accepted c → Kept c (opened c) c
 unfolding opened embed
 opened-kept c a = record { accepted = a; degrees = refl; stretch = whole-stretch c }
@@ -99,11 +100,13 @@ module _ (c : Curve) (l : Ledger) (now : Curve) (kept : Kept c l now) where
       go true e = entered-kept call (eqb→eq (refused l call .number) 0 (subst T (sym e) tt))
       go false e = kept
 
+-- the claim, from any present curve of which this is kept
 along : (c : Curve) (o : Ordinary) → InsideOf o c → (calls : List Call) (l : Ledger) (now : Curve) → Kept c l now → Along c o l now calls
 along c o inside [] l now kept = tt
 along c o inside (call ∷ calls) l now kept =
     (same-refusal c l now kept call, reading-sound c l now kept o inside call, along c o inside calls (after l call) (leaves now call) (after-kept c l now kept call))
 
+-- demand 3
 pub demand : Demand
 demand c accepted o inside calls = along c o inside calls (opened c) c (opened-kept c accepted)
 

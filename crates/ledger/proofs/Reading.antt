@@ -76,22 +76,27 @@ near-claimed up d s exact h = ≤ᶠ-of (whole s) (exact +ᶠ whole (pos d)) (su
 module _
     (c now : Curve) (start width : ℚ) (steps : ℕ) (stretch : Stretch start width steps c now) (num den : ℕ) (f : Factors (den - num) num den)
     (place : Frac) (placed : start +ℚ width *ℚ rat (parameter num den) ≡ rat place) where
-  -- a side read is near the exact curve at the place
+  -- the exact value of the moved sequence is the starting curve's at the place
+  exact-reading : (q : ℕ → ℚ) → value (mean den (f .positive) (den - num) num) (stretch .move q) (now .degree) ≡ curve q (c .degree) (rat place)
+  unfolding mean
+  exact-reading q =
+      curve-at (stretch .move q) (now .degree) _ _ (ratio-weights den (f .positive) (den - num) num (f .total))
+      ∙ stretch .moved q _
+      ∙ ap (curve q (c .degree)) (ap (λ t. start +ℚ width *ℚ t) (sym (parameter-ratio num den f)) ∙ placed)
+
+  -- a side read is near that value
   read-near :
       (x : Coordinate) (r : Rounding) (way : Side) (q : ℕ → ℚ) →
       ((k : ℕ) → k ≤ c .degree → Near way 0 (side x r (point c k)) (q k)) →
       Near way (error way r * (steps + now .degree)) (side x r (loadOf now num den)) (curve q (c .degree) (rat place))
-  unfolding loadOf value mean
+  unfolding loadOf value
   read-near x r way q near =
-      let before : (k : ℕ) → k ≤ now .degree → Near way (error way r * steps) (side x r (point now k)) (stretch .move q k) =
-      λ k h. rw zero-add at (stretch .near x r way 0 q (λ i g. rw mul-zero (near i g)) k h) in
-      let exact : value (mean den (f .positive) (den - num) num) (stretch .move q) (now .degree) ≡ curve q (c .degree) (rat place) =
-      curve-at (stretch .move q) (now .degree) _ _ (ratio-weights den (f .positive) (den - num) num (f .total))
-      ∙ stretch .moved q _
-      ∙ ap (curve q (c .degree)) (ap (λ t. start +ℚ width *ℚ t) (sym (parameter-ratio num den f)) ∙ placed) in
-      subst₂ (λ (a : ℤ) (y : ℚ). Near way (error way r * (steps + now .degree)) a y) (sym (side-value x r (point now) (den - num) num den (now .degree))) exact
-      (table-near r (den - num) num den (f .total) (f .positive) way (sides x r (point now)) (stretch .move q) (now .degree) steps before (now .degree) 0 (omega arith))
+      subst₂ (λ (a : ℤ) (y : ℚ). Near way (error way r * (steps + now .degree)) a y)
+      (sym (side-value x r (point now) (den - num) num den (now .degree))) (exact-reading q)
+      (table-near r (den - num) num den (f .total) (f .positive) way (sides x r (point now)) (stretch .move q) (now .degree) steps
+      (λ k h. rw zero-add at (stretch .near x r way 0 q (λ i g. rw mul-zero (near i g)) k h)) (now .degree) 0 (omega arith))
 
+  -- with the ordinary curve as the exact sequence it holds the load, and with the curve's own sides it is near the exact sides
   pub sound : (o : Ordinary) → InsideOf o c → Sound c o place (steps + now .degree) (loadOf now num den)
   unfolding embed
   sound o inside = record {

@@ -44,6 +44,7 @@ module _ (c : Curve) (accepted : Accepted c) where
   few = accepted-facts c accepted .few
 
   module _ (num den : ℕ) (f : Factors (den - num) num den) where
+    -- the left piece: from 0, as wide as the parameter
     pub left-stretch : Stretch (embed (pos 0)) (rat (parameter num den)) (c .degree) c (leftOf c num den)
     unfolding leftOf mean
     left-stretch = record {
@@ -56,6 +57,7 @@ module _ (c : Curve) (accepted : Accepted c) where
           (left-near r (den - num) num den (f .total) (f .positive) way (sides x r (point c)) q (c .degree) m start k h);
     }
 
+    -- the right piece: from the parameter, as wide as the rest
     pub right-stretch : Stretch (rat (parameter num den)) (rat (complement (parameter num den))) (c .degree) c (rightOf c num den)
     unfolding rightOf mean
     right-stretch = record {
@@ -68,6 +70,7 @@ module _ (c : Curve) (accepted : Accepted c) where
           (right-near r (den - num) num den (f .total) (f .positive) way (sides x r (point c)) q (c .degree) m start k h);
     }
 
+  -- the raised curve: the whole stretch, one step further
   pub raised-stretch : c .degree < maxDegree → Stretch (embed (pos 0)) (embed (pos 1)) 1 c (raisedOf c)
   unfolding raisedOf
   raised-stretch below = record {
