@@ -1,0 +1,111 @@
+-- A reading of a stretch of a curve is sound: it holds the load of every ordinary curve inside at the place read, and lies within the stretch's steps and the degree of the exact sides.
+-- Assumes nothing.
+use mathlib.Core.Path.{_≡_, sym, ap, _∙_, subst, subst₂}
+use Prim.Native.Nat.{ℕ, _+_, _*_, _-_, _≤_}
+use native.Mathlib.Nat.{mul-zero, zero-mul, one-mul, zero-add}
+use native.Mathlib.Omega.{arith}
+use lib.IntN.{ℤ, pos}
+use Rattle.rational.specs.Rounding.{Rounding, down, up}
+use Rattle.rational.specs.Fraction.{Frac, whole, _+ᶠ_}
+use Rattle.rational.proofs.Rational.{ℚ, rat, rat-add, rat-whole, embed, _+ℚ_, _*ℚ_}
+use Rattle.rational.proofs.RationalOrder.{_≤ℚ_, ≤ℚ-of, ≤ᶠ-of, ≤ℚ-refl}
+use Rattle.rational.proofs.Division.{ratio-weights}
+use Rattle.bernstein.specs.DeCasteljau.{value}
+use Rattle.bernstein.specs.Bernstein.{bernstein}
+use Rattle.bernstein.proofs.Rationals.{mean}
+use Rattle.bernstein.proofs.Convex.{order-excess, excess-order}
+use Rattle.bernstein.proofs.Curve.{curve, curve-at, bernstein-curve}
+use Rattle.bernstein.proofs.Rounded.{Side, over, under, Near, error, table-near}
+use Rattle.curve.specs.declared.Curve.{Curve}
+use Rattle.curve.specs.Rect.{Coordinate, side}
+use Rattle.curve.specs.Curve.{point, loadOf}
+use Rattle.curve.specs.Inner.{Factors}
+use Rattle.curve.proofs.Points.{sides, side-value}
+use Rattle.ledger.specs.Ordinary.{Ordinary, InsideOf, Bounded, loadAt, exactSide}
+use Rattle.ledger.specs.Ledger.{parameter}
+use Rattle.ledger.specs.Claim as Claim
+use Rattle.ledger.specs.Claim.{Sound}
+use Rattle.ledger.proofs.Stretch.{Stretch}
+use Rattle.ledger.proofs.Steps.{parameter-ratio}
+
+-- ---- the two ways of lying near, for each side
+
+-- inward, where no rounding adds anything
+abbrev inward : Rounding → Side
+inward down = over
+inward up = under
+
+inward-none : (r : Rounding) (m : ℕ) → error (inward r) r * m ≡ 0
+inward-none down m = zero-mul m
+inward-none up m = zero-mul m
+
+bounded-near : (r : Rounding) (v : Frac) (s : ℤ) → Bounded r v s → Near (inward r) 0 s (rat v)
+unfolding embed
+bounded-near down v s h = order-excess (≤ℚ-of h)
+bounded-near up v s h = order-excess (≤ℚ-of h)
+
+near-bounded : (r : Rounding) (v : Frac) (s : ℤ) → Near (inward r) 0 s (rat v) → Bounded r v s
+unfolding embed
+near-bounded down v s h = ≤ᶠ-of (whole s) v (excess-order h)
+near-bounded up v s h = ≤ᶠ-of v (whole s) (excess-order h)
+
+-- outward, where each rounding adds one step
+abbrev outward : Rounding → Side
+outward down = under
+outward up = over
+
+outward-one : (r : Rounding) (m : ℕ) → error (outward r) r * m ≡ m
+outward-one down m = one-mul m
+outward-one up m = one-mul m
+
+near-itself : (way : Side) (s : ℤ) → Near way 0 s (embed s)
+near-itself over s = order-excess (≤ℚ-refl (embed s))
+near-itself under s = order-excess (≤ℚ-refl (embed s))
+
+-- a sum with a whole number
+plus-whole : (a : Frac) (d : ℕ) → rat (a +ᶠ whole (pos d)) ≡ rat a +ℚ embed (pos d)
+plus-whole a d = rat-add a (whole (pos d)) ∙ ap (λ x. rat a +ℚ x) (rat-whole (pos d))
+
+near-claimed : (r : Rounding) (d : ℕ) (s : ℤ) (exact : Frac) → Near (outward r) d s (rat exact) → Claim.Near r d s exact
+unfolding embed
+near-claimed down d s exact h = ≤ᶠ-of exact (whole s +ᶠ whole (pos d)) (subst (λ x. rat exact ≤ℚ x) (sym (plus-whole (whole s) d)) (h .bound))
+near-claimed up d s exact h = ≤ᶠ-of (whole s) (exact +ᶠ whole (pos d)) (subst (λ x. rat (whole s) ≤ℚ x) (sym (plus-whole exact d)) (h .bound))
+
+-- ---- the reading
+
+module _
+    (c now : Curve) (start width : ℚ) (steps : ℕ) (stretch : Stretch start width steps c now) (num den : ℕ) (f : Factors (den - num) num den)
+    (place : Frac) (placed : start +ℚ width *ℚ rat (parameter num den) ≡ rat place) where
+  -- the exact value of the moved sequence is the starting curve's at the place
+  exact-reading : (q : ℕ → ℚ) → value (mean den (f .positive) (den - num) num) (stretch .move q) (now .degree) ≡ curve q (c .degree) (rat place)
+  unfolding mean
+  exact-reading q =
+      curve-at (stretch .move q) (now .degree) _ _ (ratio-weights den (f .positive) (den - num) num (f .total))
+      ∙ stretch .moved q _
+      ∙ ap (curve q (c .degree)) (ap (λ t. start +ℚ width *ℚ t) (sym (parameter-ratio num den f)) ∙ placed)
+
+  -- a side read is near that value
+  read-near :
+      (x : Coordinate) (r : Rounding) (way : Side) (q : ℕ → ℚ) →
+      ((k : ℕ) → k ≤ c .degree → Near way 0 (side x r (point c k)) (q k)) →
+      Near way (error way r * (steps + now .degree)) (side x r (loadOf now num den)) (curve q (c .degree) (rat place))
+  unfolding loadOf value
+  read-near x r way q near =
+      subst₂ (λ (a : ℤ) (y : ℚ). Near way (error way r * (steps + now .degree)) a y)
+      (sym (side-value x r (point now) (den - num) num den (now .degree))) (exact-reading q)
+      (table-near r (den - num) num den (f .total) (f .positive) way (sides x r (point now)) (stretch .move q) (now .degree) steps
+      (λ k h. rw zero-add at (stretch .near x r way 0 q (λ i g. rw mul-zero (near i g)) k h)) (now .degree) 0 (omega arith))
+
+  -- with the ordinary curve as the exact sequence it holds the load, and with the curve's own sides it is near the exact sides
+  pub sound : (o : Ordinary) → InsideOf o c → Sound c o place (steps + now .degree) (loadOf now num den)
+  unfolding embed
+  sound o inside = record {
+    holds = λ x r. near-bounded r (loadAt o x place) _
+        (subst₂ (λ (m : ℕ) (y : ℚ). Near (inward r) m (side x r (loadOf now num den)) y) (inward-none r (steps + now .degree))
+        (sym (ap (λ (n : ℕ). rat (bernstein n (o .control x) place)) (inside .degrees) ∙ bernstein-curve (c .degree) (o .control x) place))
+        (read-near x r (inward r) (λ k. rat (o .control x k)) (λ k h. bounded-near r _ _ (inside .controls x r k h))));
+    near = λ x r. near-claimed r (steps + now .degree) _ (exactSide c x r place)
+        (subst₂ (λ (m : ℕ) (y : ℚ). Near (outward r) m (side x r (loadOf now num den)) y) (outward-one r (steps + now .degree))
+        (sym (bernstein-curve (c .degree) (λ k. whole (side x r (point c k))) place))
+        (read-near x r (outward r) (λ k. embed (side x r (point c k))) (λ k h. near-itself (outward r) _)));
+  }
