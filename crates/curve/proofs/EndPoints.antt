@@ -42,7 +42,7 @@ module _ (d : ℕ) (positive : 0 < d) where
   pub affine-rect-first : (p q : Rect) → affineRect d 0 d p q ≡ p
   affine-rect-first p q = affine-rect-is d 0 d p q p (λ x r. affine-first r (side x r p) (side x r q))
 
-  affine-rect-second : (p q : Rect) → affineRect 0 d d p q ≡ q
+  pub affine-rect-second : (p q : Rect) → affineRect 0 d d p q ≡ q
   affine-rect-second p q = affine-rect-is 0 d d p q q (λ x r. affine-second r (side x r p) (side x r q))
 
 -- a map that keeps its first point, or its second, keeps the first point of all, or the last

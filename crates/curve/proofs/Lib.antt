@@ -17,3 +17,4 @@ pub mod BoundsLeast
 pub mod ZeroPast
 pub mod RectSides
 pub mod EqualAnswers
+pub mod RaisedPoints

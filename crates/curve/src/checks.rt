@@ -5,7 +5,7 @@ ghost use Rattle.curve.specs.Rect.{inRange, endsInRange, sidesInRange, e
 ghost use Rattle.curve.specs.Limits.{maxDegree};
 ghost use Rattle.curve.specs.Refusals.{curveRefusal, parameterRefusal, rangeRefusal, orderRefusal, _orElse_};
 ghost use Rattle.curve.specs.Inner.{orderRefusalAt};
-ghost use Rattle.curve.specs.Calls.{callRefusal};
+ghost use Rattle.curve.specs.Calls.{callRefusal, elevationRefusal};
 use crate::Curve;
 use crate::Interval;
 use crate::MAX_DEGREE;
@@ -130,4 +130,21 @@ pub fn call_refusal(c: Curve, num: u32, den: u32) -> Refusal
         return refusal;
     }
     parameter_refusal(num, den)
+}
+
+// Refusals 1 to 3, and 6 at the highest degree.
+pub fn elevation_refusal(c: Curve) -> Refusal
+    ensures { λ r. ⌜ r ≡ elevationRefusal c ⌝ }
+{
+    let refusal = curve_refusal(c);
+    if refusal.number != 0 {
+        return refusal;
+    }
+    if c.degree < MAX_DEGREE {
+        return refusal;
+    }
+    Refusal {
+        number: 6,
+        place: 0,
+    }
 }

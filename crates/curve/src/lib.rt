@@ -1,20 +1,25 @@
 // The load of an antenna across a band as an interval Bézier curve: records, and the calls that evaluate, subdivide and bound it.
 // Every call takes any record and any numbers, answers a refusal for bad input, and equals its definition in specs/Calls.antt.
 ghost use mathlib.Core.Path.{_≡_};
-ghost use Rattle.curve.specs.Calls.{evaluated, subdivided, bounded};
+ghost use Rattle.curve.specs.Calls.{evaluated, subdivided, elevated, bounded};
 
 mod affine;
 mod checks;
 mod display;
 mod hull;
+mod raising;
 mod table;
 
 use checks::call_refusal;
-use checks::curve_refusal;
+use checks::elevation_refusal;
 use display::ohms_of;
 use hull::hull_of;
+use raising::raised_points;
 use table::table_of;
 use table::zero_rect;
+
+// The check of a curve by itself: refusals 1 to 3.
+pub use checks::curve_refusal;
 
 // The highest degree of a curve.
 pub const MAX_DEGREE: u32 = 8;
@@ -147,6 +152,29 @@ pub fn subdivide(c: Curve, num: u32, den: u32) -> Subdivision
             degree: c.degree,
             points: right,
         },
+    }
+}
+
+// The same curve with its degree raised by one, each control point rounded outward once; refusals 1 to 3 and 6.
+pub fn elevate(c: Curve) -> Elevation
+    ensures { λ r. ⌜ r ≡ elevated c ⌝ }
+{
+    let refusal = elevation_refusal(c);
+    if refusal.number != 0 {
+        let none = [zero_rect(); PLACES];
+        return Elevation {
+            refusal,
+            curve: Curve {
+                degree: 0,
+                points: none,
+            },
+        };
+    }
+    let points = raised_points(c);
+    let degree = c.degree + 1;
+    Elevation {
+        refusal,
+        curve: Curve { degree, points },
     }
 }
 

@@ -1,0 +1,63 @@
+-- Document 01's examples that carry a star: what the definitions answer beside what the document says.
+-- Assumes nothing.
+use mathlib.Core.Path.{_≡_}
+use mathlib.Core.List.{List, [], _∷_, _++_, map}
+use Prim.Native.Nat.{ℕ}
+use lib.IntN.{ℤ, pos, negsuc}
+use Rattle.curve.specs.declared.Curve.{Curve}
+use Rattle.curve.specs.declared.Rect.{Rect}
+use Rattle.curve.specs.Curve.{curveOf, point}
+use Rattle.curve.specs.Calls.{evaluated, subdivided, elevated, bounded}
+use Rattle.examples.specs.Shown.{values, valueAt, ends, refusalShown, evaluationShown, resistancesShown}
+
+-- an example: the numbers that a definition answers, and those that the document gives
+pub record Example : Type 0 where
+  pub answer : List ℤ
+  pub document : List ℤ
+
+infix 3 _gives_
+abbrev pub _gives_ : List ℤ → List ℤ → Example
+a gives d = record { answer = a; document = d }
+
+-- the curve of the document's card; `negsuc 2` is −3
+abbrev pub cardPoint : ℕ → Rect
+cardPoint ℕ.zero = record { resistance = record { low = pos 0; high = pos 1 }; reactance = record { low = negsuc 2; high = negsuc 2 } }
+cardPoint (ℕ.suc k) = record { resistance = record { low = pos 1; high = pos 3 }; reactance = record { low = pos 0; high = pos 2 } }
+
+unfoldable pub cardCurve : Curve
+cardCurve = curveOf 1 cardPoint
+
+unfoldable pub examples : List Example
+examples =
+    -- the card read at 1/2 gives 0, 2, −2, 0; at 2/4 the same
+    (evaluationShown (evaluated cardCurve 1 2) gives pos 0 ∷ pos 0 ∷ pos 0 ∷ pos 2 ∷ negsuc 1 ∷ pos 0 ∷ [])
+    ∷ (evaluationShown (evaluated cardCurve 2 4) gives pos 0 ∷ pos 0 ∷ pos 0 ∷ pos 2 ∷ negsuc 1 ∷ pos 0 ∷ [])
+    -- reading at 0/1 gives rectangle 0, at 7/7 rectangle n
+    ∷ (evaluationShown (evaluated cardCurve 0 1) gives pos 0 ∷ pos 0 ∷ pos 0 ∷ pos 1 ∷ negsuc 2 ∷ negsuc 2 ∷ [])
+    ∷ (evaluationShown (evaluated cardCurve 7 7) gives pos 0 ∷ pos 0 ∷ pos 1 ∷ pos 3 ∷ pos 0 ∷ pos 2 ∷ [])
+    -- values 1, 0, 3 at 1/2: reading [0, 2]
+    ∷ (ends (evaluated (values 2 (pos 1 ∷ pos 0 ∷ pos 3 ∷ [])) 1 2 .load .resistance) gives pos 0 ∷ pos 2 ∷ [])
+    -- the same, cut at 1/2: left [1, 1], [0, 1], [0, 2]; right [0, 2], [1, 2], [3, 3]
+    ∷ (resistancesShown (subdivided (values 2 (pos 1 ∷ pos 0 ∷ pos 3 ∷ [])) 1 2 .left)
+    gives pos 2 ∷ pos 1 ∷ pos 1 ∷ pos 0 ∷ pos 1 ∷ pos 0 ∷ pos 2 ∷ [])
+    ∷ (resistancesShown (subdivided (values 2 (pos 1 ∷ pos 0 ∷ pos 3 ∷ [])) 1 2 .right)
+    gives pos 2 ∷ pos 0 ∷ pos 2 ∷ pos 1 ∷ pos 2 ∷ pos 3 ∷ pos 3 ∷ [])
+    -- values 0, 1 raised: [0, 0], [0, 1], [1, 1]
+    ∷ (resistancesShown (elevated (values 1 (pos 0 ∷ pos 1 ∷ [])) .curve)
+    gives pos 2 ∷ pos 0 ∷ pos 0 ∷ pos 0 ∷ pos 1 ∷ pos 1 ∷ pos 1 ∷ [])
+    -- values 0, 0, −1 raised: the third is [−1, 0]
+    ∷ (ends (point (elevated (values 2 (pos 0 ∷ pos 0 ∷ negsuc 0 ∷ [])) .curve) 2 .resistance) gives negsuc 0 ∷ pos 0 ∷ [])
+    -- side 16,777,216 accepted, 16,777,217 refused 2
+    ∷ (refusalShown (bounded (values 1 (pos 0 ∷ pos 16777216 ∷ [])) .refusal) gives pos 0 ∷ pos 0 ∷ [])
+    ∷ (refusalShown (bounded (values 1 (pos 0 ∷ pos 16777217 ∷ [])) .refusal) gives pos 2 ∷ pos 1 ∷ [])
+    -- den 65,536 accepted; 0 and 65,537 refused 4; 1/0 is a 4, 8/7 a 5
+    ∷ (refusalShown (evaluated cardCurve 1 65536 .refusal) gives pos 0 ∷ pos 0 ∷ [])
+    ∷ (refusalShown (evaluated cardCurve 0 0 .refusal) gives pos 4 ∷ pos 0 ∷ [])
+    ∷ (refusalShown (evaluated cardCurve 1 65537 .refusal) gives pos 4 ∷ pos 0 ∷ [])
+    ∷ (refusalShown (evaluated cardCurve 1 0 .refusal) gives pos 4 ∷ pos 0 ∷ [])
+    ∷ (refusalShown (evaluated cardCurve 8 7 .refusal) gives pos 5 ∷ pos 0 ∷ [])
+    ∷ []
+
+-- every example of the list is answered as the document says
+abbrev pub Agree : Type 0
+Agree = map (λ (e : Example). e .answer) examples ≡ map (λ (e : Example). e .document) examples

@@ -1,0 +1,45 @@
+-- Answers as lists of numbers, so that examples of different calls stand in one list.
+-- Assumes nothing.
+use mathlib.Core.List.{List, [], _∷_, _++_}
+use mathlib.Core.Bool.{cond}
+use Prim.Native.Nat.{ℕ, suc, _+_}
+use lib.IntN.{ℤ, pos}
+use lib.Dec.{eqb}
+use lib.ListN.{length, getD}
+use Rattle.curve.specs.declared.Interval.{Interval}
+use Rattle.curve.specs.declared.Rect.{Rect}
+use Rattle.curve.specs.declared.Curve.{Curve}
+use Rattle.curve.specs.declared.Refusal.{Refusal}
+use Rattle.curve.specs.declared.Evaluation.{Evaluation}
+use Rattle.curve.specs.Rect.{zeroInterval}
+use Rattle.curve.specs.Curve.{point, curveOf}
+
+-- "values": one coordinate with low equal to high, the other zero
+abbrev pub valueAt : List ℤ → ℕ → Rect
+valueAt vs k = record { resistance = record { low = getD vs k (pos 0); high = getD vs k (pos 0) }; reactance = zeroInterval }
+
+-- the curve of the given degree with these values
+abbrev pub values : ℕ → List ℤ → Curve
+values n vs = curveOf n (valueAt vs)
+
+abbrev pub refusalShown : Refusal → List ℤ
+refusalShown r = pos (r .number) ∷ pos (r .place) ∷ []
+
+abbrev pub ends : Interval → List ℤ
+ends i = i .low ∷ i .high ∷ []
+
+abbrev pub sidesShown : Rect → List ℤ
+sidesShown p = ends (p .resistance) ++ ends (p .reactance)
+
+-- the refusal, then the load's four sides
+abbrev pub evaluationShown : Evaluation → List ℤ
+evaluationShown e = refusalShown (e .refusal) ++ sidesShown (e .load)
+
+-- the resistances of m control points from k on
+unfoldable pub resistancesFrom : Curve → ℕ → ℕ → List ℤ
+resistancesFrom c ℕ.zero k = []
+resistancesFrom c (suc m) k = ends (point c k .resistance) ++ resistancesFrom c m (suc k)
+
+-- the degree, then the resistances of all control points
+unfoldable pub resistancesShown : Curve → List ℤ
+resistancesShown c = pos (c .degree) ∷ resistancesFrom c (c .degree + 1) 0
