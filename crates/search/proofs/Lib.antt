@@ -4,3 +4,4 @@ pub mod Steps
 pub mod Counts
 pub mod Due
 pub mod Accepted
+pub mod Budget

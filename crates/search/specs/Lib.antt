@@ -4,3 +4,5 @@ pub mod Box
 pub mod Walk
 pub mod Search
 pub mod Inner
+pub mod Pieces
+pub mod Promises

@@ -4,6 +4,19 @@ use Prim.Native.Nat.{ℕ}
 use Rattle.search.specs.declared.Verdict.{Verdict}
 use Rattle.search.specs.declared.Verdict.the-variants.{Refused, Inside, Outside, Spent, Undecided}
 
+-- the numbers of the four
+abbrev pub inside : ℕ
+inside = 1
+
+abbrev pub outside : ℕ
+outside = 2
+
+abbrev pub spent : ℕ
+spent = 3
+
+abbrev pub undecided : ℕ
+undecided = 4
+
 pub record Report : Type 0 where
   pub number : ℕ
   pub depth : ℕ
@@ -13,10 +26,10 @@ pub record Report : Type 0 where
 abbrev pub report : ℕ → ℕ → ℕ → ℕ → Report
 report number depth index count = record { number = number; depth = depth; index = index; count = count }
 
--- Inside is 1, Outside 2, Spent 3 and Undecided 4; a refused walk gives zeros
+-- an answer's number and values; a refused walk gives zeros
 abbrev pub reported : Verdict → Report
 reported Refused = report 0 0 0 0
-reported (Inside count) = report 1 0 0 count
-reported (Outside depth index count) = report 2 depth index count
-reported (Spent count) = report 3 0 0 count
-reported (Undecided depth index count) = report 4 depth index count
+reported (Inside count) = report inside 0 0 count
+reported (Outside depth index count) = report outside depth index count
+reported (Spent count) = report spent 0 0 count
+reported (Undecided depth index count) = report undecided depth index count
