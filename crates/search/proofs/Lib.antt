@@ -5,3 +5,4 @@ pub mod Counts
 pub mod Due
 pub mod Accepted
 pub mod Budget
+pub mod Named
