@@ -30,6 +30,13 @@ or-first a b h = rw (ne-eqb (a .number) 0 h)
 pub or-second : (a b : Refusal) → a .number ≡ 0 → b ≡ (a orElse b)
 or-second a b h = rw (eq-eqb (a .number) 0 h)
 
+-- what a test of a computed refusal's number says of the refusal itself
+pub number-refused : {r q : Refusal} → r ≡ q → (r .number ≡ 0 → ⊥) → eqb (q .number) 0 ≡ false
+number-refused {r} {q} e h = ne-eqb (q .number) 0 (subst (λ (x : Refusal). x .number ≡ 0 → ⊥) e h)
+
+pub number-passed : {r q : Refusal} → r ≡ q → r .number ≡ 0 → q .number ≡ 0
+number-passed e h = subst (λ (x : Refusal). x .number ≡ 0) e h
+
 -- an answer that is `none` itself where its number is 0
 abbrev pub Settled : Refusal → Type 0
 Settled a = (a orElse none) ≡ a

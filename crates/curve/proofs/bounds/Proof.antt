@@ -1,10 +1,9 @@
 -- `bounds` meets its contract: a refusal with zeros, or the hull of an accepted curve.
 -- Assumes nothing.
-use mathlib.Core.Path.{_≡_, sym, ap, _∙_, subst}
+use mathlib.Core.Path.{sym, _∙_}
 use borrow.Author.Needs.{needs}
-use borrow.Author.Tests.{ne-eqb}
-use Rattle.curve.specs.declared.Refusal.{Refusal}
-use Rattle.curve.specs.Refusals.{Accepted, curveRefusal}
+use Rattle.curve.specs.Refusals.{Accepted}
+use Rattle.curve.proofs.Refused.{number-refused, number-passed}
 use Rattle.curve.proofs.Accepted.{number-accepted, accepted-ready}
 use Rattle.curve.proofs.Answers.{bounded-accepted, bounded-refused}
 use Rattle.curve.proofs.bounds.Statement.{statement}
@@ -20,12 +19,11 @@ returns : tie.Need-returns
 returns c =
     let e = c .before .before .before .curve-refusal .ensures in
     let a = c .before .before .before .before .args in
-    rw (c .zero-rect .ensures, e)
-    (sym (bounded-refused (a .c) (ne-eqb (curveRefusal (a .c) .number) 0 (subst (λ (r : Refusal). r .number ≡ 0 → ⊥) e (c .before .if1 .taken)))))
+    rw (c .zero-rect .ensures, e) (sym (bounded-refused (a .c) (number-refused e (c .before .if1 .taken))))
 
 -- past the test the curve is accepted
 accepted : (c : tie.Else1) → Accepted (c .before .before .before .args .c)
-accepted c = number-accepted (c .before .before .before .args .c) (subst (λ (r : Refusal). r .number ≡ 0) (c .before .before .curve-refusal .ensures) (c .if1 .left))
+accepted c = number-accepted (c .before .before .before .args .c) (number-passed (c .before .before .curve-refusal .ensures) (c .if1 .left))
 
 hull-of-requires : tie.Need-hull-of-requires
 hull-of-requires c κs = accepted-ready (c .before .before .before .args .c) (accepted c)

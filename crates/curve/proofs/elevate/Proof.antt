@@ -1,15 +1,13 @@
 -- `elevate` meets its contract: a refusal with the zero curve, or the raised control points.
 -- Assumes nothing.
-use mathlib.Core.Path.{_≡_, sym, _∙_, subst}
+use mathlib.Core.Path.{sym, _∙_}
 use Prim.Native.Nat.{_<_}
 use native.Mathlib.Omega.{arith}
 use borrow.Author.Needs.{needs}
-use borrow.Author.Tests.{ne-eqb}
-use Rattle.curve.specs.declared.Refusal.{Refusal}
 use Rattle.curve.specs.Limits.{maxDegree}
 use Rattle.curve.specs.Curve.{raisedOf, pointsOf, tabulate}
 use Rattle.curve.specs.Refusals.{Accepted}
-use Rattle.curve.specs.Calls.{elevationRefusal}
+use Rattle.curve.proofs.Refused.{number-refused, number-passed}
 use Rattle.curve.proofs.Accepted.{elevation-accepted, accepted-elevation, accepted-ready}
 use Rattle.curve.proofs.Answers.{elevated-accepted, elevated-refused}
 use Rattle.curve.proofs.elevate.Statement.{statement}
@@ -26,14 +24,13 @@ unfolding pointsOf tabulate
 returns c =
     let e = c .before .before .before .elevation-refusal .ensures in
     let a = c .before .before .before .before .args .c in
-    rw (c .zero-rect .ensures, e)
-    (sym (elevated-refused a (ne-eqb (elevationRefusal a .number) 0 (subst (λ (r : Refusal). r .number ≡ 0 → ⊥) e (c .before .if1 .taken)))))
+    rw (c .zero-rect .ensures, e) (sym (elevated-refused a (number-refused e (c .before .if1 .taken))))
 
 -- past the test the curve is accepted, below the highest degree
 accepted : (c : tie.Else1) → Accepted (c .before .before .before .args .c) × (c .before .before .before .args .c .degree < maxDegree)
 accepted c =
     elevation-accepted (c .before .before .before .args .c)
-    (subst (λ (r : Refusal). r .number ≡ 0) (c .before .before .elevation-refusal .ensures) (c .if1 .left))
+    (number-passed (c .before .before .elevation-refusal .ensures) (c .if1 .left))
 
 raised-points-requires : tie.Need-raised-points-requires
 raised-points-requires c κs = let ok = accepted c in (accepted-ready (c .before .before .before .args .c) (ok .0), ok .1)

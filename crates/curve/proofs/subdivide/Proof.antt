@@ -2,11 +2,9 @@
 -- Assumes nothing.
 use mathlib.Core.Path.{_≡_, sym, ap, _∙_, subst}
 use borrow.Author.Needs.{needs}
-use borrow.Author.Tests.{ne-eqb}
-use Rattle.curve.specs.declared.Refusal.{Refusal}
 use Rattle.curve.specs.Curve.{leftOf, rightOf, pointsOf, tabulate}
 use Rattle.curve.specs.Refusals.{none, Accepted, AcceptedAt}
-use Rattle.curve.specs.Calls.{callRefusal}
+use Rattle.curve.proofs.Refused.{number-refused, number-passed}
 use Rattle.curve.proofs.Accepted.{call-accepted, accepted-call, accepted-ready, parameter-facts}
 use Rattle.curve.proofs.Answers.{subdivided-accepted, subdivided-refused}
 use Rattle.curve.proofs.subdivide.Statement.{statement}
@@ -23,16 +21,14 @@ unfolding pointsOf tabulate
 returns c =
     let e = c .before .before .before .call-refusal .ensures in
     let a = c .before .before .before .before .args in
-    rw (c .zero-rect .ensures, e)
-    (sym (subdivided-refused (a .c) (a .num) (a .den)
-    (ne-eqb (callRefusal (a .c) (a .num) (a .den) .number) 0 (subst (λ (r : Refusal). r .number ≡ 0 → ⊥) e (c .before .if1 .taken)))))
+    rw (c .zero-rect .ensures, e) (sym (subdivided-refused (a .c) (a .num) (a .den) (number-refused e (c .before .if1 .taken))))
 
 -- past the test the curve and the parameter are accepted
 accepted : (c : tie.Else1) →
     Accepted (c .before .before .before .args .c) × AcceptedAt (c .before .before .before .args .num) (c .before .before .before .args .den)
 accepted c =
     let a = c .before .before .before .args in
-    call-accepted (a .c) (a .num) (a .den) (subst (λ (r : Refusal). r .number ≡ 0) (c .before .before .call-refusal .ensures) (c .if1 .left))
+    call-accepted (a .c) (a .num) (a .den) (number-passed (c .before .before .call-refusal .ensures) (c .if1 .left))
 
 table-of-requires : tie.Need-table-of-requires
 table-of-requires c κs =

@@ -7,7 +7,7 @@ use Rattle.curve.specs.declared.Refusal.{Refusal}
 use Rattle.curve.specs.Limits.{maxDegree}
 use Rattle.curve.specs.Refusals.{Accepted, _orElse_, unless, raisingRefusal}
 use Rattle.curve.specs.Calls.{elevationRefusal}
-use Rattle.curve.proofs.Refused.{or-first}
+use Rattle.curve.proofs.Refused.{or-first, number-passed}
 use Rattle.curve.proofs.Accepted.{number-accepted, elevation-raising}
 use Rattle.curve.proofs.checks.elevation_refusal.Statement.{statement}
 use Rattle.curve.proofs.checks.elevation_refusal.Tie as tie
@@ -25,7 +25,7 @@ returns c =
 -- past the first test the curve is accepted
 accepted : (c : tie.After-struct-known2) → Accepted (c .before .before .before .before .args .c)
 accepted c =
-    number-accepted (c .before .before .before .before .args .c) (subst (λ (r : Refusal). r .number ≡ 0) (c .before .before .before .curve-refusal .ensures) (c .before .if1 .left))
+    number-accepted (c .before .before .before .before .args .c) (number-passed (c .before .before .before .curve-refusal .ensures) (c .before .if1 .left))
 
 -- past the first test the degree alone decides
 past : (c : tie.After-struct-known2) → elevationRefusal (c .before .before .before .before .args .c) ≡ raisingRefusal (c .before .before .before .before .args .c .degree)
