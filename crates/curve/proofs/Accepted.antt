@@ -23,21 +23,21 @@ use Rattle.curve.specs.Calls.{callRefusal, elevationRefusal}
 
 -- ---- tests
 
-true-of : (b : Bool) → T b → b ≡ true
+pub true-of : (b : Bool) → T b → b ≡ true
 true-of true t = refl
 true-of false t = absurd t
 
-both : (a b : Bool) → T (a && b) → T a × T b
+pub both : (a b : Bool) → T (a && b) → T a × T b
 both true b t = (tt, t)
 both false b t = absurd t
 
-join : (a b : Bool) → T a → T b → T (a && b)
+pub join : (a b : Bool) → T a → T b → T (a && b)
 join true b s t = t
 join false b s t = absurd s
 
 -- ---- number 0
 
-or-split : (a b : Refusal) → (a orElse b) .number ≡ 0 → (a .number ≡ 0) × (b .number ≡ 0)
+pub or-split : (a b : Refusal) → (a orElse b) .number ≡ 0 → (a .number ≡ 0) × (b .number ≡ 0)
 or-split a b h = go (eqb (a .number) 0) refl
   where
     go : (t : Bool) → eqb (a .number) 0 ≡ t → (a .number ≡ 0) × (b .number ≡ 0)
@@ -49,11 +49,11 @@ or-split a b h = go (eqb (a .number) 0) refl
 pub or-none : (a b : Refusal) → a ≡ none → (a orElse b) ≡ b
 or-none a b h = ap (λ (x : Refusal). x orElse b) h
 
-unless-holds : (ok : Bool) (number : ℕ) → unless ok (suc number) .number ≡ 0 → T ok
+pub unless-holds : (ok : Bool) (number : ℕ) → unless ok (suc number) .number ≡ 0 → T ok
 unless-holds true number h = tt
 unless-holds false number h = let z : suc number ≡ 0 = h in absurd (omega arith)
 
-unless-none : (ok : Bool) (number : ℕ) → T ok → unless ok number ≡ none
+pub unless-none : (ok : Bool) (number : ℕ) → T ok → unless ok number ≡ none
 unless-none true number t = refl
 unless-none false number t = absurd t
 
@@ -76,12 +76,12 @@ first-none ok number (suc m) from h =
     ∙ first-none ok number m (suc from) (λ k low high. h k (omega arith) (omega arith))
 
 -- a number from 1 to k
-between-holds : (x k number : ℕ) → unless (leb 1 x && leb x k) (suc number) .number ≡ 0 → (1 ≤ x) × (x ≤ k)
+pub between-holds : (x k number : ℕ) → unless (leb 1 x && leb x k) (suc number) .number ≡ 0 → (1 ≤ x) × (x ≤ k)
 between-holds x k number h =
     let (low, high) = both (leb 1 x) (leb x k) (unless-holds (leb 1 x && leb x k) number h) in
     (leb→le 1 x low, leb→le x k high)
 
-between-none : (x k number : ℕ) → 1 ≤ x → x ≤ k → unless (leb 1 x && leb x k) number ≡ none
+pub between-none : (x k number : ℕ) → 1 ≤ x → x ≤ k → unless (leb 1 x && leb x k) number ≡ none
 between-none x k number low high = unless-none (leb 1 x && leb x k) number (join (leb 1 x) (leb x k) (le→leb 1 x low) (le→leb x k high))
 
 -- ---- sides

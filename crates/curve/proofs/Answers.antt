@@ -29,13 +29,13 @@ not-zero n h = go (eqb n 0) refl
 
 -- an answer chosen by a refusal's number: its value where nothing is refused, where something is, and what both share
 module _ {A : Type 0} (result zeros : Refusal → A) (r : Refusal) where
-  where-none : r ≡ none → cond (eqb (r .number) 0) (result r) (zeros r) ≡ result none
+  pub where-none : r ≡ none → cond (eqb (r .number) 0) (result r) (zeros r) ≡ result none
   where-none h = ap (λ (x : Refusal). cond (eqb (x .number) 0) (result x) (zeros x)) h
 
-  where-some : eqb (r .number) 0 ≡ false → cond (eqb (r .number) 0) (result r) (zeros r) ≡ zeros r
+  pub where-some : eqb (r .number) 0 ≡ false → cond (eqb (r .number) 0) (result r) (zeros r) ≡ zeros r
   where-some h = ap (λ (b : Bool). cond b (result r) (zeros r)) h
 
-  in-both : {B : Type 0} (f : A → B) (y : B) → f (result r) ≡ y → f (zeros r) ≡ y → f (cond (eqb (r .number) 0) (result r) (zeros r)) ≡ y
+  pub in-both : {B : Type 0} (f : A → B) (y : B) → f (result r) ≡ y → f (zeros r) ≡ y → f (cond (eqb (r .number) 0) (result r) (zeros r)) ≡ y
   in-both {B} f y h k = go (eqb (r .number) 0)
     where
       go : (b : Bool) → f (cond b (result r) (zeros r)) ≡ y

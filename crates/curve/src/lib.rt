@@ -21,6 +21,10 @@ use table::zero_rect;
 // The check of a curve by itself: refusals 1 to 3.
 pub use checks::curve_refusal;
 
+// The checks of a rectangle by itself: its sides are in range, and low is at most high.
+pub use checks::sides_in_range;
+pub use checks::sides_ordered;
+
 // The highest degree of a curve.
 pub const MAX_DEGREE: u32 = 8;
 

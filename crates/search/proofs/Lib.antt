@@ -1,0 +1,8 @@
+-- Laws of the definitions in specs/, and the promises.
+pub mod Tests
+pub mod Steps
+pub mod Counts
+pub mod Due
+pub mod Accepted
+pub mod Budget
+pub mod Named

@@ -1,0 +1,8 @@
+pub mod Limits
+pub mod Verdict
+pub mod Box
+pub mod Walk
+pub mod Search
+pub mod Inner
+pub mod Pieces
+pub mod Promises

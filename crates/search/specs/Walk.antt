@@ -1,0 +1,70 @@
+-- The walk over a box, rule by rule. The verdict on the pieces walked so far, with their count, is handed from piece to piece.
+-- Assumes nothing.
+use mathlib.Core.Bool.{Bool, true, false}
+use Prim.Native.Nat.{ℕ, zero, suc, _+_, _*_}
+use lib.Dec.{eqb}
+use Rattle.curve.specs.declared.Rect.{Rect}
+use Rattle.curve.specs.declared.Curve.{Curve}
+use Rattle.curve.specs.Calls.{bounded, subdivided}
+use Rattle.search.specs.declared.Verdict.{Verdict}
+use Rattle.search.specs.declared.Verdict.the-variants.{Refused, Inside, Outside, Spent, Undecided}
+use Rattle.search.specs.declared.step.Step.{Step}
+use Rattle.search.specs.declared.step.Step.the-variants.{Ended, Exhausted, Contained, Apart, Across}
+use Rattle.search.specs.Verdict.{reported}
+use Rattle.search.specs.Box.{inBox, apartFrom}
+
+-- whether the walk goes on after this verdict so far: nothing noted (Inside), or a first piece noted (Undecided)
+abbrev pub goesOn : Verdict → Bool
+goesOn Refused = false
+goesOn (Inside count) = true
+goesOn (Outside depth index count) = false
+goesOn (Spent count) = false
+goesOn (Undecided depth index count) = true
+
+abbrev pub countOf : Verdict → ℕ
+countOf v = reported v .count
+
+-- looking at a piece adds one to the count of a walk that goes on
+abbrev pub looked : Verdict → Verdict
+looked Refused = Refused
+looked (Inside count) = Inside (count + 1)
+looked (Outside depth index count) = Outside depth index count
+looked (Spent count) = Spent count
+looked (Undecided depth index count) = Undecided depth index (count + 1)
+
+-- the piece is noted, unless one was noted before it
+abbrev pub noted : ℕ → ℕ → Verdict → Verdict
+noted depth index Refused = Refused
+noted depth index (Inside count) = Undecided depth index count
+noted depth index (Outside depth′ index′ count) = Outside depth′ index′ count
+noted depth index (Spent count) = Spent count
+noted depth index (Undecided depth′ index′ count) = Undecided depth′ index′ count
+
+-- what becomes of a piece that is due, by whether the walk goes on, whether its count is at the budget, whether the span lies in the box, and whether it is apart from it
+abbrev pub stepBy : Bool → Bool → Bool → Bool → Step
+stepBy false full within apart = Ended
+stepBy true true within apart = Exhausted
+stepBy true false true apart = Contained
+stepBy true false false true = Apart
+stepBy true false false false = Across
+
+-- the verdict after a step; `further` is what follows where the span lies across the box's edge
+abbrev pub after : Step → ℕ → ℕ → Verdict → (Verdict → Verdict) → Verdict
+after Ended depth index v further = v
+after Exhausted depth index v further = Spent (countOf v)
+after Contained depth index v further = looked v
+after Apart depth index v further = Outside depth index (countOf v + 1)
+after Across depth index v further = further (looked v)
+
+module _ (box : Rect) (budget : ℕ) where
+  unfoldable pub stepAt : Curve → Verdict → Step
+  stepAt piece v =
+      stepBy (goesOn v) (eqb (countOf v) budget) (inBox (bounded piece .rect) box) (apartFrom (bounded piece .rect) box)
+
+  -- the walk of a piece with so many depths below it: at the depth limit it is noted; above, it is cut at 1/2, and the left piece is walked wholly before the right
+  unfoldable pub walked : ℕ → Curve → ℕ → ℕ → Verdict → Verdict
+  walked zero piece depth index v = after (stepAt piece v) depth index v (noted depth index)
+  walked (suc below) piece depth index v =
+      after (stepAt piece v) depth index v (λ w.
+      walked below (subdivided piece 1 2 .right) (depth + 1) (index * 2 + 1)
+      (walked below (subdivided piece 1 2 .left) (depth + 1) (index * 2) w))

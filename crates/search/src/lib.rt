@@ -1,0 +1,134 @@
+// The walk over a box: whether every load of a curve lies in the box, found by cutting the curve into pieces.
+// The call takes any record and any numbers, answers a refusal for bad input, and equals its definition in specs/Search.antt.
+ghost use mathlib.Core.Path.{_≡_};
+ghost use Rattle.search.specs.Search.{boxRefusal, searchRefusal, searched};
+ghost use Rattle.search.specs.Walk.{walked};
+ghost use Rattle.search.specs.Inner.{Due};
+use curve::Curve;
+use curve::Rect;
+use curve::Refusal;
+
+mod lies;
+mod step;
+mod verdicts;
+
+use lies::is_box;
+use step::Step;
+use step::step_at;
+use verdicts::count_of;
+use verdicts::looked;
+use verdicts::noted;
+
+// The largest depth limit.
+pub const MAX_DEPTH: u32 = 12;
+
+// The largest budget: as many pieces as a walk of the largest depth can have.
+pub const MAX_BUDGET: u32 = 8191;
+
+// How a walk ended, with the number of pieces looked at; Outside and Undecided name a piece by its depth and index.
+pub enum Verdict {
+    Refused,
+    Inside(u32),
+    Outside { depth: u32, index: u32, count: u32 },
+    Spent(u32),
+    Undecided { depth: u32, index: u32, count: u32 },
+}
+
+// The answer of search.
+pub struct SearchAnswer {
+    pub refusal: Refusal,
+    pub verdict: Verdict,
+}
+
+// Refusals 7 to 9.
+fn box_refusal(limits: Rect, depth: u32, budget: u32) -> Refusal
+    ensures { λ r. ⌜ r ≡ boxRefusal limits depth budget ⌝ }
+{
+    if !is_box(limits) {
+        return Refusal {
+            number: 7,
+            place: 0,
+        };
+    }
+    if MAX_DEPTH < depth {
+        return Refusal {
+            number: 8,
+            place: 0,
+        };
+    }
+    if budget < 1 || MAX_BUDGET < budget {
+        return Refusal {
+            number: 9,
+            place: 0,
+        };
+    }
+    Refusal {
+        number: 0,
+        place: 0,
+    }
+}
+
+// Refusals 1 to 3, then 7 to 9.
+fn search_refusal(c: Curve, limits: Rect, depth: u32, budget: u32) -> Refusal
+    ensures { λ r. ⌜ r ≡ searchRefusal c limits depth budget ⌝ }
+{
+    let refusal = curve::curve_refusal(c);
+    if refusal.number != 0 {
+        return refusal;
+    }
+    box_refusal(limits, depth, budget)
+}
+
+// The verdict once this piece is walked, with `below` depths below it, after the verdict on the pieces before it.
+fn walk(
+    piece: Curve,
+    limits: Rect,
+    budget: u32,
+    below: u32,
+    depth: u32,
+    index: u32,
+    before: Verdict,
+) -> Verdict
+    requires { ⌜ Due below depth index budget before ⌝ }
+    ensures { λ r. ⌜ r ≡ walked limits budget below piece depth index before ⌝ }
+{
+    match step_at(piece, limits, budget, before) {
+        Step::Ended => before,
+        Step::Exhausted => Verdict::Spent(count_of(before)),
+        Step::Contained => looked(before),
+        Step::Apart => Verdict::Outside {
+            depth,
+            index,
+            count: count_of(before) + 1,
+        },
+        Step::Across => {
+            let seen = looked(before);
+            if below == 0 {
+                return noted(depth, index, seen);
+            }
+            let pieces = curve::subdivide(piece, 1, 2);
+            let left = pieces.left;
+            let right = pieces.right;
+            let even = index * 2;
+            let half = walk(left, limits, budget, below - 1, depth + 1, even, seen);
+            walk(right, limits, budget, below - 1, depth + 1, even + 1, half)
+        }
+    }
+}
+
+// Whether the curve stays in the box, looking at no more than budget pieces, none deeper than depth; refusals 1 to 3 and 7 to 9.
+pub fn search(c: Curve, limits: Rect, depth: u32, budget: u32) -> SearchAnswer
+    ensures { λ r. ⌜ r ≡ searched c limits depth budget ⌝ }
+{
+    let refusal = search_refusal(c, limits, depth, budget);
+    if refusal.number != 0 {
+        return SearchAnswer {
+            refusal,
+            verdict: Verdict::Refused,
+        };
+    }
+    SearchAnswer {
+        refusal,
+        verdict: walk(c, limits, budget, depth, 0, 0, Verdict::Inside(0)),
+    }
+}

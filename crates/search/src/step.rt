@@ -1,0 +1,38 @@
+// What becomes of a piece that is due: the rules of the walk in their order.
+ghost use mathlib.Core.Path.{_≡_};
+ghost use Rattle.search.specs.Walk.{stepAt};
+use crate::Verdict;
+use crate::lies::apart_from;
+use crate::lies::in_box;
+use crate::verdicts::count_of;
+use crate::verdicts::goes_on;
+use curve::Curve;
+use curve::Rect;
+
+// The walk has ended before the piece, or its budget is spent; or the piece's span lies in the box, is apart from it, or neither.
+pub enum Step {
+    Ended,
+    Exhausted,
+    Contained,
+    Apart,
+    Across,
+}
+
+pub fn step_at(piece: Curve, limits: Rect, budget: u32, before: Verdict) -> Step
+    ensures { λ r. ⌜ r ≡ stepAt limits budget piece before ⌝ }
+{
+    if !goes_on(before) {
+        return Step::Ended;
+    }
+    if count_of(before) == budget {
+        return Step::Exhausted;
+    }
+    let span = curve::bounds(piece).rect;
+    if in_box(span, limits) {
+        return Step::Contained;
+    }
+    if apart_from(span, limits) {
+        return Step::Apart;
+    }
+    Step::Across
+}
