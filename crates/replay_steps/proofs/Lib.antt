@@ -1,0 +1,3 @@
+-- Laws of the definitions in specs/, and the promises.
+pub mod Ranges
+pub mod Requests

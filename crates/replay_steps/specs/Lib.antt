@@ -1,0 +1,5 @@
+pub mod Line
+pub mod Request
+pub mod Answer
+pub mod Step
+pub mod Inner
