@@ -4,3 +4,5 @@ pub mod Requests
 pub mod Lines
 pub mod Numbers
 pub mod Points
+pub mod Replies
+pub mod Results

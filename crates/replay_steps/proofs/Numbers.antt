@@ -48,3 +48,12 @@ number-fits n h = le-leb n largest h
 
 pub capped-fits : (n : ℕ) → fitsColumn (capped n) ≡ true
 capped-fits n = number-fits (min n largest) (omega arith)
+
+-- ---- an unsigned number as an i64
+
+pub as-signed : (n : ℕ) → n < 2 ^ 63 → toZ w64 n ≡ pos n
+as-signed n h = toZ-ofZ w64 (pos n) (record { sfits = omega arith })
+
+-- a count as it is written, back from its bits
+pub capped-back : (n : ℕ) → toZ w64 (ofZ w64 (capped n)) ≡ capped n
+capped-back n = toZ-ofZ w64 (capped n) (record { sfits = omega arith })

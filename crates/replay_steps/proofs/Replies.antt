@@ -1,0 +1,37 @@
+-- Laws of an answer that is handed on: from the line that was written, and by whether the call was refused.
+-- Assumes nothing.
+use mathlib.Core.Path.{_≡_, refl, ap, _∙_, subst, sym}
+use mathlib.Core.List.{List, _∷_}
+use Prim.Native.Nat.{ℕ}
+use borrow.Author.Tests.{eq-eqb, ne-eqb}
+use lib.IntN.{ℤ, pos}
+use lib.ListN.{length}
+use Rattle.curve.specs.declared.Refusal.{Refusal}
+use Rattle.card_text.specs.Inner.{placed}
+use Rattle.replay_steps.specs.declared.Case.{Case}
+use Rattle.replay_steps.specs.declared.answers.Reply.{Reply}
+use Rattle.replay_steps.specs.Line.{line}
+use Rattle.replay_steps.specs.Answer.{Answer, refusing, answering}
+use Rattle.replay_steps.specs.Inner.{Replied}
+
+-- the line of some numbers was written
+pub from-line : (s : Case) (numbers zs : List ℤ) {before after : List ℕ} {written : ℕ} →
+    zs ≡ numbers → written ≡ length (line zs) → after ≡ placed before 0 (line zs) →
+    Replied (record { case = s; numbers = numbers }) before (record { case = s; written = written }) after
+from-line s numbers zs {before} {after} {written} e w t =
+    record {
+      reply = ap (λ (n : ℕ). record { case = s; written = n }) (w ∙ ap (λ (l : List ℤ). length (line l)) e);
+      text = t ∙ ap (λ (l : List ℤ). placed before 0 (line l)) e;
+    }
+
+-- a refused call, and an accepted one, of which r is the refusal as the code holds it
+module _ (s next : Case) (results : List ℤ) {r q : Refusal} (same : r ≡ q) {before after : List ℕ} {reply : Reply} where
+  pub where-refused : (r .number ≡ 0 → ⊥) → Replied (refusing s r) before reply after → Replied (answering s q next results) before reply after
+  where-refused h x =
+      let e = ne-eqb (q .number) 0 (subst (λ (y : Refusal). y .number ≡ 0 → ⊥) same h) in
+      rw e (subst (λ (y : Refusal). Replied (refusing s y) before reply after) same x)
+
+  pub where-accepted : r .number ≡ 0 → Replied (record { case = next; numbers = pos 0 ∷ results }) before reply after → Replied (answering s q next results) before reply after
+  where-accepted h x =
+      let e = eq-eqb (q .number) 0 (subst (λ (y : Refusal). y .number ≡ 0) same h) in
+      rw e x
