@@ -4,6 +4,7 @@ use mathlib.Core.Path.{_≡_, refl, sym, ap, ap₂, _∙_}
 use mathlib.Core.Bool.{true}
 use mathlib.Core.List.{List, [], _∷_, _++_, append-assoc, append-nil}
 use Prim.Native.Nat.{ℕ, zero, suc, _+_, _*_, _≤_, _<_}
+use native.Mathlib.Nat.{zero-add}
 use native.Mathlib.Numerals.{add-one}
 use native.Mathlib.Omega.{arith}
 use lib.IntN.{ℤ, pos}
@@ -12,6 +13,8 @@ use lib.Seq.{take-suc, take-length}
 use Rattle.columns.specs.Column.{column, fitsColumn}
 use Rattle.columns.proofs.Promises.{column-is-ten}
 use Rattle.card_text.specs.Card.{newline}
+use Rattle.card_text.specs.Inner.{placed}
+use Rattle.card_text.proofs.Placed.{placed-then}
 use Rattle.replay_steps.specs.Line.{columns, line}
 use Rattle.replay_steps.specs.Inner.{Fitting}
 
@@ -62,3 +65,20 @@ columns-to zs k f h = columns-long (take k zs) (fitting-take k zs f) ∙ rw (len
 pub line-long : (zs : List ℤ) → Fitting zs → length (line zs) ≡ 10 * length zs + 1
 unfolding line
 line-long zs f = length-append (columns zs) (newline ∷ []) ∙ rw (columns-long zs f)
+
+-- ---- in a buffer
+
+-- bytes that hold the columns of some numbers in front, and what is put behind those
+module _ (bytes : List ℕ) (a : List ℤ) (out : List ℕ) (n : ℕ) (f : Fitting a) (w : n ≡ 10 * length a) (room : n ≤ length bytes) (e : out ≡ placed bytes 0 (columns a)) where
+  behind : (next : List ℕ) → placed out n next ≡ placed bytes 0 (columns a ++ next)
+  behind next = ap (λ (k : ℕ). placed out k next) (sym (zero-add n)) ∙ placed-then bytes 0 n (columns a) next out (columns-long a f ∙ sym w) (omega arith) e
+
+  pub columns-then : (b : List ℤ) → placed out n (columns b) ≡ placed bytes 0 (columns (a ++ b))
+  columns-then b = behind (columns b) ∙ ap (λ (t : List ℕ). placed bytes 0 t) (sym (columns-append a b))
+
+  pub line-then : placed out n (newline ∷ []) ≡ placed bytes 0 (line a)
+  unfolding line
+  line-then = behind (newline ∷ [])
+
+  pub line-end : n + 1 ≡ length (line a)
+  line-end = rw (line-long a f) (omega arith)

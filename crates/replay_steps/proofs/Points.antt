@@ -1,10 +1,11 @@
 -- Laws of a curve's rectangles as numbers: how many they are, that they fit, and one rectangle more.
 -- Assumes nothing.
 use mathlib.Core.Path.{_≡_, refl, ap, _∙_}
-use mathlib.Core.List.{List, [], _++_}
+use mathlib.Core.List.{List, [], _∷_, _++_}
 use Prim.Native.Nat.{ℕ, zero, suc, _+_, _*_, _≤_, _<_}
 use native.Mathlib.Numerals.{add-one}
 use native.Mathlib.Omega.{arith}
+use lib.IntN.{pos}
 use lib.ListN.{length, length-append}
 use Rattle.curve.specs.declared.Curve.{Curve}
 use Rattle.curve.specs.declared.Rect.{Rect}
@@ -16,7 +17,7 @@ use Rattle.replay_steps.specs.Line.{columns}
 use Rattle.replay_steps.specs.Answer.{sidesThen, sidesTo, sidesOf}
 use Rattle.replay_steps.specs.Inner.{Fitting}
 use Rattle.replay_steps.proofs.Lines.{fitting-append, columns-append, columns-long}
-use Rattle.replay_steps.proofs.Numbers.{rect-fits}
+use Rattle.replay_steps.proofs.Numbers.{rect-fits, number-fits}
 
 module _ (P : ℕ → Rect) where
   pub sides-count : (m : ℕ) → length (sidesTo m P) ≡ 4 * m
@@ -49,3 +50,7 @@ module _ (c : Curve) (accepted : Accepted c) where
 
   pub curve-long : length (columns (sidesOf c)) ≡ 40 * (c .degree + 1)
   curve-long = sides-long (point c) (c .degree + 1) curve-held
+
+  -- behind a 0 and the degree
+  pub head-fits : Fitting (pos 0 ∷ pos (c .degree) ∷ [])
+  head-fits = (number-fits 0 (omega arith), (number-fits (c .degree) (omega (arith, curve-few)), tt))

@@ -1,6 +1,6 @@
 -- Laws of an answer that is handed on: from the line that was written, and by whether the call was refused.
 -- Assumes nothing.
-use mathlib.Core.Path.{_≡_, refl, ap, _∙_, subst, sym}
+use mathlib.Core.Path.{_≡_, ap, ap₂, _∙_, subst}
 use mathlib.Core.List.{List, _∷_}
 use Prim.Native.Nat.{ℕ}
 use borrow.Author.Tests.{eq-eqb, ne-eqb}
@@ -14,13 +14,13 @@ use Rattle.replay_steps.specs.Line.{line}
 use Rattle.replay_steps.specs.Answer.{Answer, refusing, answering}
 use Rattle.replay_steps.specs.Inner.{Replied}
 
--- the line of some numbers was written
-pub from-line : (s : Case) (numbers zs : List ℤ) {before after : List ℕ} {written : ℕ} →
-    zs ≡ numbers → written ≡ length (line zs) → after ≡ placed before 0 (line zs) →
-    Replied (record { case = s; numbers = numbers }) before (record { case = s; written = written }) after
-from-line s numbers zs {before} {after} {written} e w t =
+-- the line of some numbers was written, and a case kept; both as the code holds them
+pub from-line : (s next : Case) (numbers zs : List ℤ) {before after : List ℕ} {written : ℕ} →
+    s ≡ next → zs ≡ numbers → written ≡ length (line zs) → after ≡ placed before 0 (line zs) →
+    Replied (record { case = next; numbers = numbers }) before (record { case = s; written = written }) after
+from-line s next numbers zs {before} {after} {written} c e w t =
     record {
-      reply = ap (λ (n : ℕ). record { case = s; written = n }) (w ∙ ap (λ (l : List ℤ). length (line l)) e);
+      reply = ap₂ (λ (x : Case) (n : ℕ). record { case = x; written = n }) c (w ∙ ap (λ (l : List ℤ). length (line l)) e);
       text = t ∙ ap (λ (l : List ℤ). placed before 0 (line l)) e;
     }
 

@@ -1,6 +1,6 @@
 -- `enclosure` meets its contract: a refusal, or the sides of the bounds.
 -- Assumes nothing.
-use mathlib.Core.Path.{_≡_, sym, ap, subst, _∙_}
+use mathlib.Core.Path.{_≡_, refl, sym, ap, subst, _∙_}
 use mathlib.Core.List.{List, [], _∷_}
 use Prim.Native.Nat.{_*_, _<_}
 use native.Mathlib.Omega.{arith}
@@ -74,7 +74,7 @@ returns-2 c =
     let w = c .before .before in
     let n = w .before .before .before in
     let case = start n .args .case in
-    where-accepted case case _ (ap (λ (x : Enclosure). x .refusal) (bounds-of n)) (test n .if1 .left) (from-line case _ _ (numbers n) (w .write-line .ensures .0) (w .write-line .ensures .1))
+    where-accepted case case _ (ap (λ (x : Enclosure). x .refusal) (bounds-of n)) (test n .if1 .left) (from-line case case _ _ refl (numbers n) (w .write-line .ensures .0) (w .write-line .ensures .1))
 
 pub enclosure-spec : {M : Type 1} → statement M
 enclosure-spec =

@@ -1,6 +1,6 @@
 -- `evaluation` meets its contract: a refusal, or the sides of the load and the sum.
 -- Assumes nothing.
-use mathlib.Core.Path.{_≡_, sym, ap, ap₂, subst, _∙_}
+use mathlib.Core.Path.{_≡_, refl, sym, ap, ap₂, subst, _∙_}
 use mathlib.Core.List.{List, [], _∷_}
 use Prim.Native.Nat.{ℕ, _+_, _*_, _<_, min}
 use native.Mathlib.Omega.{arith}
@@ -92,7 +92,7 @@ returns-2 c =
     let w = c .before .before in
     let n = w .before .before .before in
     let case = start n .args .case in
-    where-accepted case case _ (ap (λ (x : Evaluation). x .refusal) (evaluation-of n)) (test n .if1 .left) (from-line case _ _ (numbers n) (w .write-line .ensures .0) (w .write-line .ensures .1))
+    where-accepted case case _ (ap (λ (x : Evaluation). x .refusal) (evaluation-of n)) (test n .if1 .left) (from-line case case _ _ refl (numbers n) (w .write-line .ensures .0) (w .write-line .ensures .1))
 
 pub evaluation-spec : {M : Type 1} → statement M
 evaluation-spec =

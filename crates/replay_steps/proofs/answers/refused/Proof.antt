@@ -1,6 +1,6 @@
 -- `refused` meets its contract.
 -- Assumes nothing.
-use mathlib.Core.Path.{_≡_, sym, ap₂, subst}
+use mathlib.Core.Path.{_≡_, refl, sym, ap₂, subst}
 use mathlib.Core.List.{List, [], _∷_}
 use Prim.Native.Nat.{_<_}
 use native.Mathlib.Omega.{arith}
@@ -46,7 +46,7 @@ returns : tie.Need-returns
 returns c =
     let w = c .before .before in
     let p = w .before .before .before in
-    from-line (p .before .before .before .args .case) _ _ (numbers p) (w .write-line .ensures .0) (w .write-line .ensures .1)
+    from-line (p .before .before .before .args .case) _ _ _ refl (numbers p) (w .write-line .ensures .0) (w .write-line .ensures .1)
 
 pub refused-spec : {M : Type 1} → statement M
 refused-spec =

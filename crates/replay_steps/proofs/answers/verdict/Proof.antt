@@ -1,6 +1,6 @@
 -- `verdict` meets its contract: a refusal, or the numbers of the verdict.
 -- Assumes nothing.
-use mathlib.Core.Path.{_≡_, sym, ap, ap₂, subst, _∙_}
+use mathlib.Core.Path.{_≡_, refl, sym, ap, ap₂, subst, _∙_}
 use mathlib.Core.List.{List, [], _∷_}
 use Prim.Native.Nat.{ℕ, _*_, _<_, _≤_}
 use native.Mathlib.Omega.{arith}
@@ -114,7 +114,7 @@ returns-2 c =
     let k = w .before .before .before in
     let case = start k .args .case in
     let e = test k .before .before .before .search .ensures in
-    where-accepted case case _ (ap (λ (x : SearchAnswer). x .refusal) e) (test k .if1 .left) (from-line case _ _ (numbers k) (w .write-line .ensures .0) (w .write-line .ensures .1))
+    where-accepted case case _ (ap (λ (x : SearchAnswer). x .refusal) e) (test k .if1 .left) (from-line case case _ _ refl (numbers k) (w .write-line .ensures .0) (w .write-line .ensures .1))
 
 pub verdict-spec : {M : Type 1} → statement M
 verdict-spec =
