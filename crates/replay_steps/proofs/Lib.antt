@@ -6,3 +6,5 @@ pub mod Numbers
 pub mod Points
 pub mod Replies
 pub mod Results
+pub mod Cards
+pub mod Effects

@@ -1,7 +1,7 @@
 -- What the functions inside the crate ask of each other. No public contract cites it.
 -- Assumes nothing.
 use mathlib.Core.Path.{_≡_}
-use mathlib.Core.Bool.{true}
+use mathlib.Core.Bool.{Bool, true}
 use mathlib.Core.List.{List, [], _∷_}
 use Prim.Native.Nat.{ℕ}
 use lib.IntN.{ℤ}
@@ -10,10 +10,13 @@ use Rattle.columns.specs.Column.{fitsColumn}
 use Rattle.card_text.specs.Inner.{placed}
 use Rattle.search.specs.declared.Verdict.{Verdict}
 use Rattle.search.specs.Verdict.{reported}
+use Rattle.replay_steps.specs.declared.Stepped.{Stepped}
+use Rattle.replay_steps.specs.declared.Status.the-variants.{Done}
 use Rattle.replay_steps.specs.declared.answers.Reply.{Reply}
 use Rattle.replay_steps.specs.declared.answers.Report.{Report}
-use Rattle.replay_steps.specs.Line.{line}
+use Rattle.replay_steps.specs.Line.{line, added}
 use Rattle.replay_steps.specs.Answer.{Answer}
+use Rattle.replay_steps.specs.Step.{Effect, stepped, written}
 
 -- each of the numbers fits a column
 abbrev pub Fitting : List ℤ → Type 0
@@ -34,3 +37,18 @@ abbrev pub reportOf : Verdict → Report
 reportOf v =
     let r = reported v in
     record { number = r .number; depth = r .depth; index = r .index; count = r .count }
+
+-- a line is done: the case of a reply, so many bytes further
+abbrev pub passedBy : ℕ → ℕ → Bool → Reply → Stepped
+passedBy offset consumed active r =
+    record {
+      session = record { case = r .case; active = active; offset = added offset consumed };
+      consumed = consumed;
+      written = r .written;
+      status = Done;
+    }
+
+-- a step does what it should
+pub record Wrote (e : Effect) (before : List ℕ) (r : Stepped) (after : List ℕ) : Type 0 where
+  pub result : r ≡ stepped e
+  pub text : after ≡ written e before

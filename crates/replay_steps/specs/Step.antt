@@ -21,7 +21,7 @@ use Rattle.replay_steps.specs.declared.request.Request.{Request}
 use Rattle.replay_steps.specs.declared.request.Request.the-variants.{Invalid, Close, Evaluate, Subdivide, Elevate, Bounds, Search}
 use Rattle.replay_steps.specs.Line.{line, added, capped}
 use Rattle.replay_steps.specs.Request.{wordAt, requestOf}
-use Rattle.replay_steps.specs.Answer.{Answer, refusing, evaluation, subdivision, elevation, enclosure, verdict}
+use Rattle.replay_steps.specs.Answer.{Answer, answering, evaluation, subdivision, elevation, enclosure, verdict}
 
 -- what a step does: the session that it leaves, the bytes that it takes, what it met, and the text that it writes
 pub record Effect : Type 0 where
@@ -58,21 +58,26 @@ answered s consumed a = passing s consumed true (a .case) (line (a .numbers))
 
 -- ---- a card
 
--- the card at the front: as long as its degree tells, or as degree 0 would where it tells none
-unfoldable pub cardAt : List ℕ → List ℕ
-cardAt bytes =
+-- the length of the card at the front: as its degree tells, or as degree 0 would where it tells none
+unfoldable pub cardSize : List ℕ → ℕ
+cardSize bytes =
     let n = wordAt bytes 0 .value in
-    take (cardLength (cond (leb n maxDegree) n 0)) bytes
+    cardLength (cond (leb n maxDegree) n 0)
+
+-- the card at the front
+unfoldable pub cardAt : List ℕ → List ℕ
+cardAt bytes = take (cardSize bytes) bytes
 
 -- a card that is accepted, or refused with 2 or 3, is well formed
 abbrev pub isWhole : ℕ → Bool
 isWhole number = eqb number 0 || eqb number 2 || eqb number 3
 
--- a card's answer: 0 and the degree, or its refusal with the zero curve
+-- a card's answer: 0 and the degree, or its refusal; the reader gives the zero curve with it
+abbrev pub openingBy : Case → Refusal → Answer
+openingBy s r = answering s r s (pos (s .curve .degree) ∷ [])
+
 abbrev pub opening : CardRead → Answer
-opening r =
-    let s : Case = record { curve = r .curve; sum = 0 } in
-    cond (eqb (r .refusal .number) 0) (record { case = s; numbers = pos 0 ∷ pos (r .curve .degree) ∷ [] }) (refusing s (r .refusal))
+opening r = openingBy (record { curve = r .curve; sum = 0 }) (r .refusal)
 
 unfoldable pub cardStep : Session → List ℕ → Effect
 cardStep s bytes =

@@ -1,4 +1,25 @@
 // A list of calls from cards, one step at a time: a card or a call line is taken from the front of some bytes, and its answer is written.
+ghost use mathlib.Core.Path.{_≡_};
+ghost use Prim.Native.Nat.{_≤_};
+ghost use lib.ListN.{length};
+ghost use Rattle.replay_steps.specs.Step.{
+  started,
+  idle,
+  stopping,
+  passing,
+  cardSize,
+  cardAt,
+  isWhole,
+  openingBy,
+  cardStep,
+  callStep,
+  lineRoom,
+  effect,
+  stepped,
+  written,
+};
+ghost use Rattle.replay_steps.specs.Inner.{passedBy, Replied, Wrote};
+
 mod answers;
 mod fields;
 mod request;
@@ -6,6 +27,7 @@ mod write;
 
 use answers::Reply;
 use answers::added;
+use answers::capped;
 use answers::elevation;
 use answers::enclosure;
 use answers::evaluation;
@@ -16,6 +38,7 @@ use curve::Curve;
 use curve::Interval;
 use curve::PLACES;
 use curve::Rect;
+use curve::Refusal;
 use fields::word_at;
 use request::Request;
 use request::request_of;
@@ -57,7 +80,9 @@ pub struct Stepped {
 }
 
 // The session before any input.
-pub fn start() -> Session {
+pub fn start() -> Session
+    ensures { λ r. ⌜ r ≡ started ⌝ }
+{
     let none = Rect {
         resistance: Interval { low: 0, high: 0 },
         reactance: Interval { low: 0, high: 0 },
@@ -74,7 +99,9 @@ pub fn start() -> Session {
 }
 
 // Takes the card or the call line at the front of the input, and writes its answer.
-pub fn step(session: Session, input: &[u8], out: &mut [u8]) -> Stepped {
+pub fn step(session: Session, input: &[u8], out: &mut [u8]) -> Stepped
+    ensures { λ r. ⌜ (r ≡ stepped (effect session (now (input .entry)) (now (out .entry)))) × (now (out .exit) ≡ written (effect session (now (input .entry)) (now (out .entry))) (now (out .entry))) ⌝ }
+{
     if out.len() < LINE_ROOM {
         return idle(session, Status::NoRoom);
     }
@@ -88,7 +115,9 @@ pub fn step(session: Session, input: &[u8], out: &mut [u8]) -> Stepped {
 }
 
 // Nothing taken and nothing written.
-fn idle(session: Session, status: Status) -> Stepped {
+fn idle(session: Session, status: Status) -> Stepped
+    ensures { λ r. ⌜ r ≡ stepped (idle session status) ⌝ }
+{
     Stepped {
         session,
         consumed: 0,
@@ -98,9 +127,13 @@ fn idle(session: Session, status: Status) -> Stepped {
 }
 
 // A malformed line ends the run: 99 and its offset.
-fn stopped(session: Session, out: &mut [u8]) -> Stepped {
-    let offset = added(session.offset, 0);
-    let written = write_line(out, &[99, offset as i64]);
+fn stopped(session: Session, out: &mut [u8]) -> Stepped
+    requires { ⌜ lineRoom ≤ length (now out) ⌝ }
+    ensures { λ r. ⌜ Wrote (stopping session) (now (out .entry)) r (now (out .exit)) ⌝ }
+{
+    let offset = capped(session.offset);
+    let numbers = [99, offset];
+    let written = write_line(out, &numbers);
     Stepped {
         session,
         consumed: 0,
@@ -110,7 +143,9 @@ fn stopped(session: Session, out: &mut [u8]) -> Stepped {
 }
 
 // A line is done: the session so many bytes further.
-fn passed(offset: u64, consumed: usize, active: bool, reply: Reply) -> Stepped {
+fn passed(offset: u64, consumed: usize, active: bool, reply: Reply) -> Stepped
+    ensures { λ r. ⌜ r ≡ passedBy offset consumed active reply ⌝ }
+{
     let case = reply.case;
     Stepped {
         session: Session {
@@ -125,7 +160,9 @@ fn passed(offset: u64, consumed: usize, active: bool, reply: Reply) -> Stepped {
 }
 
 // The bytes of the card that begins here, as its degree tells; those of degree 0 where it is none.
-fn card_size(input: &[u8]) -> usize {
+fn card_size(input: &[u8]) -> usize
+    ensures { λ r. ⌜ r ≡ cardSize (now (input .entry)) ⌝ }
+{
     let degree = word_at(input, 0).value;
     if degree <= 8 {
         return 11 + 41 * (degree as usize + 1);
@@ -134,7 +171,9 @@ fn card_size(input: &[u8]) -> usize {
 }
 
 // The card at the front of the input.
-fn card_at(input: &[u8]) -> &[u8] {
+fn card_at(input: &[u8]) -> &[u8]
+    ensures { λ r. ⌜ now r ≡ cardAt (now (input .entry)) ⌝ }
+{
     let size = card_size(input);
     if size <= input.len() {
         return &input[..size];
@@ -143,12 +182,36 @@ fn card_at(input: &[u8]) -> &[u8] {
 }
 
 // Whether a card with this refusal is well formed: accepted, or refused with 2 or 3.
-fn is_whole(number: u32) -> bool {
-    number == 0 || number == 2 || number == 3
+fn is_whole(number: u32) -> bool
+    ensures { λ r. ⌜ r ≡ isWhole number ⌝ }
+{
+    if number == 0 {
+        return true;
+    }
+    if number == 2 {
+        return true;
+    }
+    number == 3
+}
+
+// A card's line: 0 and the degree, or its refusal.
+fn opening(case: Case, refusal: Refusal, out: &mut [u8]) -> Reply
+    requires { ⌜ lineRoom ≤ length (now out) ⌝ }
+    ensures { λ r. ⌜ Replied (openingBy case refusal) (now (out .entry)) r (now (out .exit)) ⌝ }
+{
+    if refusal.number != 0 {
+        return refused(case, refusal, out);
+    }
+    let numbers = [0, case.curve.degree as i64];
+    let written = write_line(out, &numbers);
+    Reply { case, written }
 }
 
 // A card begins a case.
-fn card_step(session: Session, input: &[u8], out: &mut [u8]) -> Stepped {
+fn card_step(session: Session, input: &[u8], out: &mut [u8]) -> Stepped
+    requires { ⌜ lineRoom ≤ length (now out) ⌝ }
+    ensures { λ r. ⌜ Wrote (cardStep session (now (input .entry))) (now (out .entry)) r (now (out .exit)) ⌝ }
+{
     let text = card_at(input);
     let size = text.len();
     let card = card_text::read_card(text);
@@ -158,16 +221,14 @@ fn card_step(session: Session, input: &[u8], out: &mut [u8]) -> Stepped {
     }
     let curve = card.curve;
     let case = Case { curve, sum: 0 };
-    if refusal.number != 0 {
-        let reply = refused(case, refusal, out);
-        return passed(session.offset, size, true, reply);
-    }
-    let written = write_line(out, &[0, curve.degree as i64]);
-    passed(session.offset, size, true, Reply { case, written })
+    passed(session.offset, size, true, opening(case, refusal, out))
 }
 
 // A call line inside a case.
-fn call_step(session: Session, request: Request, out: &mut [u8]) -> Stepped {
+fn call_step(session: Session, request: Request, out: &mut [u8]) -> Stepped
+    requires { ⌜ lineRoom ≤ length (now out) ⌝ }
+    ensures { λ r. ⌜ Wrote (callStep session request) (now (out .entry)) r (now (out .exit)) ⌝ }
+{
     let case = session.case;
     let offset = session.offset;
     match request {

@@ -19,11 +19,22 @@ use curve::Rect;
 pub enum Request {
     Invalid,
     Close,
-    Evaluate { num: u32, den: u32 },
-    Subdivide { num: u32, den: u32, right: bool },
+    Evaluate {
+        num: u32,
+        den: u32,
+    },
+    Subdivide {
+        num: u32,
+        den: u32,
+        right: bool,
+    },
     Elevate,
     Bounds,
-    Search { limits: Rect, depth: u32, budget: u32 },
+    Search {
+        limits: Rect,
+        depth: u32,
+        budget: u32,
+    },
 }
 
 // The columns of a parameter.

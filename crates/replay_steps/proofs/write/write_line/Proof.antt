@@ -34,8 +34,8 @@ returns c =
     let end : w .write-numbers .result ≡ 0 + 10 * length numbers = w .write-numbers .ensures .0 in (
       e .end-line .ensures .0 ∙ rw end (omega (arith, line-long numbers (s .pre .0))),
       e .end-line .ensures .1
-      ∙ ap (λ (n : ℕ). placed (w .write-numbers .last .0) n (newline ∷ [])) end
-      ∙ placed-then (s .args .out .now) 0 (10 * length numbers) (columns numbers) (newline ∷ []) (w .write-numbers .last .0) (columns-long numbers (s .pre .0)) (omega (arith, s .pre .1)) (w .write-numbers .ensures .1),
+          ∙ ap (λ (n : ℕ). placed (w .write-numbers .last .0) n (newline ∷ [])) end
+          ∙ placed-then (s .args .out .now) 0 (10 * length numbers) (columns numbers) (newline ∷ []) (w .write-numbers .last .0) (columns-long numbers (s .pre .0)) (omega (arith, s .pre .1)) (w .write-numbers .ensures .1),
     )
 
 pub write-line-spec : {M : Type 1} → statement M

@@ -64,8 +64,8 @@ loop-again c =
       omega arith,
       p .put-column .kept .0 ∙ l .loop .inv .1,
       put
-      ∙ placed-then (s .args .out .now) (s .args .at) (10 * k) (columns (take k numbers)) (column z) (l .loop .out) (columns-to numbers k (s .pre .0) (l .loop .inv .0)) (omega (arith, s .pre .1)) (l .loop .inv .2)
-      ∙ ap (λ (t : List ℕ). placed (s .args .out .now) (s .args .at) t) (sym (columns-next numbers k within)),
+          ∙ placed-then (s .args .out .now) (s .args .at) (10 * k) (columns (take k numbers)) (column z) (l .loop .out) (columns-to numbers k (s .pre .0) (l .loop .inv .0)) (omega (arith, s .pre .1)) (l .loop .inv .2)
+          ∙ ap (λ (t : List ℕ). placed (s .args .out .now) (s .args .at) t) (sym (columns-next numbers k within)),
     )
 
 mul-result : tie.Need-mul-result Inv-loop μ-loop

@@ -64,8 +64,8 @@ loop-again c =
       omega arith,
       w .write-rect .kept .0 ∙ l .loop .inv .1,
       w .write-rect .ensures
-      ∙ placed-then (s .args .out .now) (s .args .at) (40 * k) (columns (sidesTo k P)) (columns (sidesThen (P k) [])) (l .loop .out) size (omega (arith, s .pre .1)) (l .loop .inv .2)
-      ∙ ap (λ (t : List ℕ). placed (s .args .out .now) (s .args .at) t) (sym (sides-next P k)),
+          ∙ placed-then (s .args .out .now) (s .args .at) (40 * k) (columns (sidesTo k P)) (columns (sidesThen (P k) [])) (l .loop .out) size (omega (arith, s .pre .1)) (l .loop .inv .2)
+          ∙ ap (λ (t : List ℕ). placed (s .args .out .now) (s .args .at) t) (sym (sides-next P k)),
     )
 
 add-result : tie.Need-add-result Inv-loop μ-loop
