@@ -23,9 +23,7 @@ fn is_done(status: Status) -> bool {
 }
 
 // Takes the cards and call lines of a window one after the other, and writes their answers.
-fn run_window(session: Session, window: &[u8], last: bool) -> Pass {
-    let mut space = io::large_buffer();
-    let out: &mut [u8] = &mut space;
+fn run_window(session: Session, window: &[u8], last: bool, out: &mut [u8]) -> Pass {
     let mut session = session;
     let mut taken = 0;
     let mut used = 0;
@@ -39,7 +37,8 @@ fn run_window(session: Session, window: &[u8], last: bool) -> Pass {
         session = stepped.session;
         taken += stepped.consumed;
         used += stepped.written;
-        more = is_done(stepped.status);
+        let status = stepped.status;
+        more = is_done(status);
     }
     io::write_all(1, &out[..used]);
     Pass {
@@ -60,19 +59,19 @@ fn to_front(buffer: &mut [u8], from: usize, end: usize) -> usize {
 }
 
 fn main() {
-    let mut space = io::large_buffer();
-    let buffer: &mut [u8] = &mut space;
+    let mut input = io::large_buffer();
+    let mut output = io::large_buffer();
     let mut session = replay_steps::start();
     let mut kept = 0;
     let mut turns = u64::MAX;
     while 0 < turns {
-        let end = kept + io::read_full(0, &mut buffer[kept..]);
-        let pass = run_window(session, &buffer[..end], end < buffer.len());
+        let end = kept + io::read_full(0, &mut input[kept..]);
+        let pass = run_window(session, &input[..end], end < 65536, &mut output);
         if !pass.more {
             return;
         }
         session = pass.session;
-        kept = to_front(buffer, pass.taken, end);
+        kept = to_front(&mut input, pass.taken, end);
         turns -= 1;
     }
 }

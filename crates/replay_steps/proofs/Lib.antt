@@ -8,3 +8,4 @@ pub mod Replies
 pub mod Results
 pub mod Cards
 pub mod Effects
+pub mod Progress
