@@ -1,4 +1,10 @@
 // Runs lists of calls from cards: reads standard input, and writes the answer to each card and each call.
+// The work is `step` of the crate replay_steps, which is proved equal to its definition; here it is proved that the program is safe and ends.
+ghost use mathlib.Core.Path.{_≡_};
+ghost use mathlib.Core.Bool.{true};
+ghost use Prim.Native.Nat.{_+_, _≤_};
+ghost use lib.ListN.{length};
+ghost use Rattle.replay_steps.specs.declared.Status.the-variants.{Done};
 use replay_steps::LINE_ROOM;
 use replay_steps::Session;
 use replay_steps::Status;
@@ -13,7 +19,9 @@ struct Pass {
 }
 
 // Whether a step met a whole card or line.
-fn is_done(status: Status) -> bool {
+fn is_done(status: Status) -> bool
+    ensures { λ r. ⌜ (r ≡ true → status ≡ Done) ⌝ }
+{
     match status {
         Status::Done => true,
         Status::Ended => false,
@@ -22,17 +30,38 @@ fn is_done(status: Status) -> bool {
     }
 }
 
+// Whether a step can be taken: the run goes on, and the window holds all that a step may need or is the last.
+fn can_step(more: bool, last: bool, left: usize) -> bool
+    ensures { λ r. ⌜ (r ≡ true → more ≡ true) ⌝ }
+{
+    if !more {
+        return false;
+    }
+    last || WINDOW <= left
+}
+
+// Writes the answers where there is no room behind them for another one, and answers where the next one goes.
+fn make_room(out: &[u8], used: usize) -> usize
+    requires { ⌜ used ≤ length (now out) ⌝ }
+    ensures { λ r. ⌜ r ≤ used ⌝ }
+{
+    if LINE_ROOM <= out.len() - used {
+        return used;
+    }
+    io::write_all(1, &out[..used]);
+    0
+}
+
 // Takes the cards and call lines of a window one after the other, and writes their answers.
-fn run_window(session: Session, window: &[u8], last: bool, out: &mut [u8]) -> Pass {
+fn run_window(session: Session, window: &[u8], last: bool, out: &mut [u8]) -> Pass
+    ensures { λ r. ⌜ r .taken ≤ length (now (window .entry)) ⌝ }
+{
     let mut session = session;
     let mut taken = 0;
     let mut used = 0;
     let mut more = true;
-    while more && (last || WINDOW <= window.len() - taken) {
-        if out.len() - used < LINE_ROOM {
-            io::write_all(1, &out[..used]);
-            used = 0;
-        }
+    while can_step(more, last, window.len() - taken) {
+        used = make_room(out, used);
         let stepped = step(session, &window[taken..], &mut out[used..]);
         session = stepped.session;
         taken += stepped.consumed;
@@ -49,7 +78,10 @@ fn run_window(session: Session, window: &[u8], last: bool, out: &mut [u8]) -> Pa
 }
 
 // Moves the bytes from one offset to another to the front, and answers how many they are.
-fn to_front(buffer: &mut [u8], from: usize, end: usize) -> usize {
+fn to_front(buffer: &mut [u8], from: usize, end: usize) -> usize
+    requires { ⌜ (from ≤ end) × (end ≤ length (now buffer)) ⌝ }
+    ensures { λ r. ⌜ from + r ≡ end ⌝ }
+{
     let mut k = 0;
     while from + k < end {
         buffer[k] = buffer[from + k];

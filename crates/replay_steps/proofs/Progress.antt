@@ -7,16 +7,17 @@ use Prim.Native.Nat.{ℕ, _+_, _≤_, _<_, min}
 use native.Mathlib.Omega.{arith}
 use borrow.Author.Tests.{ltb-true, ltb-false, eqb-false}
 use lib.Dec.{eqb, ltb}
-use lib.ListN.{length, getD, take, length-take, List·getD-eq-default}
+use lib.ListN.{length, drop, length-append, length-take, length-drop, List·getD-eq-default}
 use Rattle.columns.proofs.Decode.{both}
 use Rattle.card_text.specs.Reading.{readCard}
 use Rattle.replay_steps.specs.declared.Session.{Session}
+use Rattle.replay_steps.specs.declared.Stepped.{Stepped}
 use Rattle.replay_steps.specs.declared.Status.{Status}
 use Rattle.replay_steps.specs.declared.Status.the-variants.{Done, Ended, Stopped, NoRoom}
 use Rattle.replay_steps.specs.declared.request.Request.{Request}
 use Rattle.replay_steps.specs.declared.request.Request.the-variants.{Invalid, Close, Evaluate, Subdivide, Elevate, Bounds, Search}
 use Rattle.replay_steps.specs.Request.{wordAt, endsAt, endsLine, parameterAt, walkAt, shaped, requestBy, requestOf}
-use Rattle.replay_steps.specs.Step.{Effect, idle, stopping, answered, opening, isWhole, cardSize, cardAt, cardStep, callStep, lineRoom, effect}
+use Rattle.replay_steps.specs.Step.{Effect, idle, stopping, answered, opening, isWhole, cardSize, cardAt, cardStep, callStep, lineRoom, effect, stepped, written}
 use Rattle.replay_steps.specs.Promises.{Progress}
 
 -- what a status says of the bytes taken
@@ -119,3 +120,17 @@ pub progress : Progress
 progress s input out =
     let p = step-good s input out in
     (p .within, λ e. subst (λ (t : Status). Taking t (effect s input out .consumed)) e (p .taking))
+
+-- what a caller knows after a step, of its input and its buffer
+pub record After (input out : List ℕ) (r : Stepped) : Type 0 where
+  pub taken : r .consumed ≤ length input
+  pub used : r .written ≤ length out
+  pub moved : r .status ≡ Done → 0 < r .consumed
+
+pub after-step : (s : Session) (input out : List ℕ) {after : List ℕ} {r : Stepped} →
+    r ≡ stepped (effect s input out) → after ≡ written (effect s input out) out → length after ≡ length out → After input out r
+after-step s input out {after} e t same =
+    let f = effect s input out in
+    let p = progress s input out in
+    let size : length after ≡ length (f .text) + length (drop (length (f .text)) out) = ap length t ∙ length-append (f .text) (drop (length (f .text)) out) in
+    subst (After input out) (sym e) (record { taken = p .0; used = omega (arith, size, length-drop (length (f .text)) out); moved = p .1 })

@@ -1,110 +1,132 @@
--- `run_window` meets its contract.
+-- `run_window` is safe and ends. The invariant: what is taken lies in the window, and what is used in the buffer. The measure is what is left of the window while the run goes on.
 -- Assumes nothing.
+use mathlib.Core.Path.{_≡_, refl, sym, _∙_}
+use mathlib.Core.Bool.{Bool, true, false, false≢true}
+use mathlib.Core.List.{List}
+use Prim.Native.Nat.{ℕ, suc, _+_, _-_, _≤_, _<_}
+use native.Mathlib.Omega.{arith}
+use lib.ListN.{length, take, drop, length-take, length-drop}
+use lib.Seq.{length-take-le}
+use borrow.Rule.Slice.PartMut.{putMid, same-len-mid}
+use Rattle.replay_steps.proofs.Progress.{After, after-step}
 use Rattle.replay.proofs.run_window.Statement.{statement}
 use Rattle.replay.proofs.run_window.Tie as tie
-use Rattle.replay.proofs.run_window.Reads as reads
-use Rattle.replay.proofs.run_window.Lts as lts
-use Rattle.io.proofs.write_all.Reads as write-all-reads
-use Rattle.replay.proofs.is_done.Reads as is-done-reads
-use Rattle.replay_steps.proofs.step.Reads as step-reads
+
+-- the measure
+abbrev left : Bool → ℕ → ℕ
+left true n = suc n
+left false n = 0
+
+falls : (d m : Bool) (size taken n : ℕ) → m ≡ true → (d ≡ true → 0 < n) → taken + n ≤ size → left d (size - (taken + n)) < left m (size - taken)
+falls d false size taken n e some h = absurd (false≢true e)
+falls true true size taken n e some h = let positive = some refl in omega arith
+falls false true size taken n e some h = omega arith
 
 abbrev Inv-loop : tie.InvT-loop
-Inv-loop window last out₀ session₀ taken₀ used₀ more₀ out session taken used more = ?
+Inv-loop window last out₀ session₀ taken₀ used₀ more₀ out session taken used more =
+    (taken ≤ length window) × (used ≤ length out) × (length out ≡ length out₀)
 
 abbrev μ-loop : tie.MeasureT-loop
-μ-loop window last out₀ session₀ taken₀ used₀ more₀ out session taken used more = ?
+μ-loop window last out₀ session₀ taken₀ used₀ more₀ out session taken used more = left more (length window - taken)
 
--- src/main.rt:31:5
 loop-holds : tie.Need-loop-holds Inv-loop μ-loop
-loop-holds c = ?
+loop-holds c = (omega arith, omega arith, refl)
 
--- src/main.rt:31:38
-sub-if2 : tie.Need-sub-if2 Inv-loop μ-loop
-sub-if2 c = ?
+sub-can-step : tie.Need-sub-can-step Inv-loop μ-loop
+sub-can-step c = omega arith
 
--- src/main.rt:32:12
-sub-if3 : tie.Need-sub-if3 Inv-loop μ-loop
-sub-if3 c = ?
+can-step-requires : tie.Need-can-step-requires Inv-loop μ-loop
+can-step-requires c κs = tt
 
--- src/main.rt:33:30
-slice-reshare-prefix-write-all : tie.Need-slice-reshare-prefix-write-all Inv-loop μ-loop
-slice-reshare-prefix-write-all c = ?
+make-room-requires : tie.Need-make-room-requires Inv-loop μ-loop
+make-room-requires c κs = omega arith
 
--- src/main.rt:33:30
-slice-aggregate-write-all : tie.Need-slice-aggregate-write-all Inv-loop μ-loop
-slice-aggregate-write-all c = ?
-
--- src/main.rt:33:13
-write-all-requires : tie.Need-write-all-requires Inv-loop μ-loop
-write-all-requires c κs = ?
-
--- src/main.rt:36:37
 sub-step : tie.Need-sub-step Inv-loop μ-loop
-sub-step c = ?
+sub-step c = omega arith
 
--- src/main.rt:36:37
 part-step-start : tie.Need-part-step-start Inv-loop μ-loop
-part-step-start c = ?
+part-step-start c = omega arith
 
--- src/main.rt:36:37
 part-step-end : tie.Need-part-step-end Inv-loop μ-loop
-part-step-end c = ?
+part-step-end c = omega arith
 
--- src/main.rt:36:55
 sub-step-2 : tie.Need-sub-step-2 Inv-loop μ-loop
-sub-step-2 c = ?
+sub-step-2 c = omega arith
 
--- src/main.rt:36:55
 part-step-start-2 : tie.Need-part-step-start-2 Inv-loop μ-loop
-part-step-start-2 c = ?
+part-step-start-2 c = omega arith
 
--- src/main.rt:36:55
 part-step-end-2 : tie.Need-part-step-end-2 Inv-loop μ-loop
-part-step-end-2 c = ?
+part-step-end-2 c = omega arith
 
--- src/main.rt:36:13
 step-requires : tie.Need-step-requires Inv-loop μ-loop
-step-requires c κs = ?
+step-requires c κs = tt
 
--- src/main.rt:38:9
+-- ---- after a step
+
+module _ (f : tie.After-step Inv-loop μ-loop) where
+  abbrev room : tie.After-make-room Inv-loop μ-loop
+  room = f .before .before .before
+
+  abbrev here : tie.At-loop Inv-loop μ-loop
+  here = room .before .before .before .before
+
+  abbrev window : List ℕ
+  window = here .before .before .before .args .window .now
+
+  abbrev rest : List ℕ
+  rest = take (length window - here .loop .taken) (drop (here .loop .taken) window)
+
+  abbrev free : List ℕ
+  free = take (length (here .loop .out) - room .make-room .result) (drop (room .make-room .result) (here .loop .out))
+
+  after : After rest free (f .step .result)
+  after = after-step (here .loop .session) rest free (f .step .ensures .0) (f .step .ensures .1) (f .step .kept .1 .1 .0)
+
+  inside : here .loop .taken + f .step .result .consumed ≤ length window
+  inside = omega (arith, after .taken, here .loop .inv .0, length-take (length window - here .loop .taken) (drop (here .loop .taken) window), length-drop (here .loop .taken) window)
+
+  filled : room .make-room .result + f .step .result .written ≤ length (here .loop .out)
+  filled =
+      let out = here .loop .out in
+      let n = room .make-room .result in
+      omega (arith, after .used, room .make-room .ensures, here .loop .inv .1, length-take (length out - n) (drop n out), length-drop n out)
+
+  kept : length (putMid (room .make-room .result) (length (here .loop .out) - room .make-room .result) (here .loop .out) (f .step .last .1 .1 .0)) ≡ length (here .loop .out)
+  kept = same-len-mid (room .make-room .result) (length (here .loop .out) - room .make-room .result) (here .loop .out) (f .step .last .1 .1 .0) (f .step .kept .1 .1 .0)
+
 add-taken : tie.Need-add-taken Inv-loop μ-loop
-add-taken c = ?
+add-taken c = let f = c .before .before .before .before in omega (arith, inside f, here f .before .before .before .good .1 .0 .0)
 
--- src/main.rt:39:9
 add-used : tie.Need-add-used Inv-loop μ-loop
-add-used c = ?
+add-used c = let f = c .before .before .before .before .before in let s = here f .before .before .before in omega (arith, filled f, here f .loop .inv .2, s .good .1 .1 .1 .0 .0)
 
--- src/main.rt:41:9
 is-done-requires : tie.Need-is-done-requires Inv-loop μ-loop
-is-done-requires c κs = ?
+is-done-requires c κs = tt
 
--- src/main.rt:31:5
 loop-less : tie.Need-loop-less Inv-loop μ-loop
-loop-less c = ?
+loop-less c =
+    let f = c .before .before .before .before .before .before in
+    let t = room f .before .before in
+    falls (c .is-done .result) (here f .loop .more) (length (window f)) (here f .loop .taken) (f .step .result .consumed) (t .before .can-step .ensures (t .if1 .taken)) (λ e. after f .moved (c .is-done .ensures e)) (inside f)
 
--- src/main.rt:31:5
 loop-again : tie.Need-loop-again Inv-loop μ-loop
-loop-again c = ?
+loop-again c = let f = c .before .before .before .before .before .before in (inside f, rw (kept f) (filled f), kept f ∙ here f .loop .inv .2)
 
--- src/main.rt:43:22
-slice-reshare-prefix-write-all-2 : tie.Need-slice-reshare-prefix-write-all-2 Inv-loop μ-loop
-slice-reshare-prefix-write-all-2 c = ?
+slice-reshare-prefix-write-all : tie.Need-slice-reshare-prefix-write-all Inv-loop μ-loop
+slice-reshare-prefix-write-all c = omega arith
 
--- src/main.rt:43:22
-slice-aggregate-write-all-2 : tie.Need-slice-aggregate-write-all-2 Inv-loop μ-loop
-slice-aggregate-write-all-2 c = ?
+slice-aggregate-write-all : tie.Need-slice-aggregate-write-all Inv-loop μ-loop
+slice-aggregate-write-all c = let l = c .before .before .before in sym (length-take-le (l .loop .used) (l .loop .out) (l .loop .inv .1))
 
--- src/main.rt:43:5
-write-all-requires-2 : tie.Need-write-all-requires-2 Inv-loop μ-loop
-write-all-requires-2 c κs = ?
+write-all-requires : tie.Need-write-all-requires Inv-loop μ-loop
+write-all-requires c κs = tt
 
--- src/main.rt:26:1
 same-length : tie.Need-same-length Inv-loop μ-loop
-same-length c = ?
+same-length c = c .before .before .before .before .loop .inv .2
 
--- src/main.rt:26:1
 returns : tie.Need-returns Inv-loop μ-loop
-returns c = ?
+returns c = omega arith
 
 pub run-window-spec : {M : Type 1} → statement M
 run-window-spec =
@@ -113,11 +135,9 @@ run-window-spec =
     Inv-loop
     μ-loop
     loop-holds
-    sub-if2
-    sub-if3
-    slice-reshare-prefix-write-all
-    slice-aggregate-write-all
-    write-all-requires
+    sub-can-step
+    can-step-requires
+    make-room-requires
     sub-step
     part-step-start
     part-step-end
@@ -130,8 +150,8 @@ run-window-spec =
     is-done-requires
     loop-less
     loop-again
-    slice-reshare-prefix-write-all-2
-    slice-aggregate-write-all-2
-    write-all-requires-2
+    slice-reshare-prefix-write-all
+    slice-aggregate-write-all
+    write-all-requires
     same-length
     returns)
