@@ -12,6 +12,8 @@ use Rattle.curve.specs.declared.Curve.{Curve}
 use Rattle.curve.specs.declared.Refusal.{Refusal}
 use Rattle.curve.specs.declared.Evaluation.{Evaluation}
 use Rattle.curve.specs.Rect.{zeroInterval}
+use Rattle.search.specs.declared.Verdict.{Verdict}
+use Rattle.search.specs.Verdict.{reported}
 use Rattle.curve.specs.Curve.{point, curveOf}
 
 -- "values": one coordinate with low equal to high, the other zero
@@ -43,3 +45,8 @@ resistancesFrom c (suc m) k = ends (point c k .resistance) ++ resistancesFrom c 
 -- the degree, then the resistances of all control points
 unfoldable pub resistancesShown : Curve → List ℤ
 resistancesShown c = pos (c .degree) ∷ resistancesFrom c (c .degree + 1) 0
+
+-- the number of a walk's answer, the depth and the index of the piece that it names, and the count
+abbrev pub verdictShown : Verdict → List ℤ
+verdictShown v =
+    pos (reported v .number) ∷ pos (reported v .depth) ∷ pos (reported v .index) ∷ pos (reported v .count) ∷ []
