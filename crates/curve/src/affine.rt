@@ -1,31 +1,38 @@
 // The affine map of two sides, intervals and rectangles, rounded outward.
-// A side is moved up by MAX_SIDE into the natural numbers, so that the quotient is one unsigned division.
+// A map is counted from the lower of its two sides, so that the quotient is one division of natural numbers, small where the sides are close.
 ghost use mathlib.Core.Path.{_≡_};
-ghost use Prim.Native.Nat.{_≤_};
-ghost use lib.IntN.{pos, _+ℤ_};
-ghost use Rattle.rational.specs.Rounding.{quotient};
 ghost use Rattle.bernstein.specs.Affine.{affine};
 ghost use Rattle.curve.specs.Rect.{affineInterval, affineRect};
-ghost use Rattle.curve.specs.Inner.{Side, Sides, Held, Factors, roundingOf};
-ghost use Rattle.curve.specs.Limits.{maxSide};
+ghost use Rattle.curve.specs.Inner.{Side, Sides, Held, Factors, Rising, roundingOf};
 use crate::Interval;
-use crate::MAX_SIDE;
 use crate::Rect;
 
-// The side as a natural number, counted from the least side.
-fn raised(side: i32) -> u64
-    requires { ⌜ Side side ⌝ }
-    ensures { λ r. ⌜ pos r ≡ side +ℤ pos maxSide ⌝ }
-{
-    (side as i64 + MAX_SIDE as i64) as u64
+// The two sides as the lower one, the distance to the other and the other's factor.
+struct Rise {
+    from: i32,
+    by: u64,
+    factor: u64,
 }
 
-// The side that a natural number stands for.
-fn lowered(n: u64) -> i32
-    requires { ⌜ n ≤ 33554432 ⌝ }
-    ensures { λ r. ⌜ r +ℤ pos maxSide ≡ pos n ⌝ }
+fn rise_of(a: i32, b: i32, s: u64, t: u64) -> Rise
+    requires { ⌜ Side a ⌝ }
+    requires { ⌜ Side b ⌝ }
+    ensures { λ r. ⌜ Rising a b s t (r .from) (r .by) (r .factor) ⌝ }
 {
-    (n as i64 - MAX_SIDE as i64) as i32
+    if a <= b {
+        let by = (b - a) as u64;
+        return Rise {
+            from: a,
+            by,
+            factor: t,
+        };
+    }
+    let by = (a - b) as u64;
+    Rise {
+        from: b,
+        by,
+        factor: s,
+    }
 }
 
 // (s × a + t × b) / den, rounded up or down.
@@ -35,8 +42,10 @@ fn affine_side(a: i32, b: i32, s: u64, t: u64, den: u64, up: bool) -> i32
     requires { ⌜ Factors s t den ⌝ }
     ensures { λ r. ⌜ r ≡ affine (roundingOf up) s t den a b ⌝ }
 {
+    let rise = rise_of(a, b, s, t);
     let lift = if up { den - 1 } else { 0 };
-    lowered((s * raised(a) + t * raised(b) + lift) / den)
+    let steps = (rise.factor * rise.by + lift) / den;
+    rise.from + steps as i32
 }
 
 fn affine_interval(i: Interval, j: Interval, s: u64, t: u64, den: u64) -> Interval

@@ -1,10 +1,10 @@
 // De Casteljau's table of a curve, from which the load and both pieces are read.
 ghost use mathlib.Core.Path.{_≡_};
 ghost use Prim.Native.Nat.{_-_, _≤_};
-ghost use Rattle.curve.specs.Rect.{affineRect, zeroRect};
+ghost use Rattle.curve.specs.Rect.{zeroRect};
 ghost use Rattle.curve.specs.Curve.{pointsOf, point, leftOf, rightOf};
 ghost use Rattle.curve.specs.Limits.{maxDegree};
-ghost use Rattle.curve.specs.Inner.{Factors, Ready, Stage, staged};
+ghost use Rattle.curve.specs.Inner.{Factors, Ready};
 use crate::Curve;
 use crate::Interval;
 use crate::PLACES;
@@ -42,22 +42,7 @@ fn trimmed(c: Curve) -> [Rect; PLACES]
     points
 }
 
-// One stage in place: the first m entries become the maps of neighbours.
-fn stage(entries: [Rect; PLACES], m: usize, s: u64, t: u64, den: u64) -> [Rect; PLACES]
-    requires { ⌜ Stage m s t den entries ⌝ }
-    ensures { λ r. ⌜ r ≡ staged m (affineRect s t den) entries ⌝ }
-{
-    let mut next = entries;
-    let mut k = 0;
-    while k < m {
-        let p = next[k];
-        let q = next[k + 1];
-        next[k] = affine_rect(p, q, s, t, den);
-        k += 1;
-    }
-    next
-}
-
+// The stages are made in place, one map a turn: in stage j + 1 the first k entries are done. A stage that is done hands its first entry to the left piece.
 pub fn table_of(c: Curve, num: u32, den: u32) -> Table
     requires { ⌜ Ready c ⌝ }
     requires { ⌜ Factors (den - num) num den ⌝ }
@@ -71,10 +56,17 @@ pub fn table_of(c: Curve, num: u32, den: u32) -> Table
     let mut left = [zero_rect(); PLACES];
     left[0] = right[0];
     let mut j = 0;
+    let mut k = 0;
     while j < n {
-        right = stage(right, n - j, s, t, d);
-        j += 1;
-        left[j] = right[0];
+        let p = right[k];
+        let q = right[k + 1];
+        right[k] = affine_rect(p, q, s, t, d);
+        k += 1;
+        if j + k == n {
+            j += 1;
+            k = 0;
+            left[j] = right[0];
+        }
     }
     Table { left, right }
 }
