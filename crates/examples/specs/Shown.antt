@@ -13,6 +13,8 @@ use Rattle.curve.specs.declared.Refusal.{Refusal}
 use Rattle.curve.specs.declared.Evaluation.{Evaluation}
 use Rattle.curve.specs.Rect.{zeroInterval}
 use Rattle.curve.specs.Curve.{point, curveOf}
+use Rattle.search.specs.declared.SearchAnswer.{SearchAnswer}
+use Rattle.search.specs.Verdict.{reported}
 
 -- "values": one coordinate with low equal to high, the other zero
 abbrev pub valueAt : List ℤ → ℕ → Rect
@@ -43,3 +45,9 @@ resistancesFrom c (suc m) k = ends (point c k .resistance) ++ resistancesFrom c 
 -- the degree, then the resistances of all control points
 unfoldable pub resistancesShown : Curve → List ℤ
 resistancesShown c = pos (c .degree) ∷ resistancesFrom c (c .degree + 1) 0
+
+-- the refusal, then the verdict's number, depth, index and count
+abbrev pub searchShown : SearchAnswer → List ℤ
+searchShown a =
+    let r = reported (a .verdict) in
+    refusalShown (a .refusal) ++ (pos (r .number) ∷ pos (r .depth) ∷ pos (r .index) ∷ pos (r .count) ∷ [])
