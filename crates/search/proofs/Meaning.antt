@@ -6,6 +6,7 @@ use mathlib.Core.Logic.{_⊎_, inl, inr, ⊎-elim}
 use Prim.Native.Nat.{ℕ, _+_, _*_, _^_}
 use native.Mathlib.Numerals.{add-one}
 use native.Mathlib.Omega.{arith}
+use borrow.Author.Tests.{eqb-false}
 use lib.Dec.{T}
 use lib.IntN.{ℤ, pos, _*ℤ_}
 use lib.Signed.{leZ, ltZ, _≤ℤ_, leZ-yes, ltZ-yes, clashℤ}
@@ -80,10 +81,10 @@ apart-clash o t p q e l k =
 -- ---- verdicts
 
 inside-on : (v : Verdict) → reported v .number ≡ inside → goesOn v ≡ true
-inside-on Refused e = let z : _≡_ {A = ℕ} 0 1 = e in absurd (omega arith)
+inside-on Refused e = absurd (eqb-false 0 1 refl e)
 inside-on (InsideV n) e = refl
-inside-on (Outside d i n) e = let z : _≡_ {A = ℕ} 2 1 = e in absurd (omega arith)
-inside-on (Spent n) e = let z : _≡_ {A = ℕ} 3 1 = e in absurd (omega arith)
+inside-on (Outside d i n) e = absurd (eqb-false 2 1 refl e)
+inside-on (Spent n) e = absurd (eqb-false 3 1 refl e)
 inside-on (Undecided d i n) e = refl
 
 looked-inside : {v : Verdict} → Going v → reported (looked v) .number ≡ inside → reported v .number ≡ inside
@@ -91,8 +92,8 @@ looked-inside clear e = refl
 looked-inside marked e = e
 
 noted-inside : (d i : ℕ) {v : Verdict} → Going v → reported (noted d i (looked v)) .number ≡ inside → ⊥
-noted-inside d i clear e = let z : _≡_ {A = ℕ} 4 1 = e in omega arith
-noted-inside d i marked e = let z : _≡_ {A = ℕ} 4 1 = e in omega arith
+noted-inside d i clear e = eqb-false 4 1 refl e
+noted-inside d i marked e = eqb-false 4 1 refl e
 
 -- ---- loads on the stretch of a piece
 
@@ -127,12 +128,12 @@ module _ (c : Curve) (accepted : Accepted c) (box : Rect) (o : Ordinary) (within
   unfolding Loads
   inside-rules budget = record {
     ended = λ m piece d i v e p h. absurd (false≢true (sym e ∙ inside-on v h));
-    exhausted = λ m piece d i v g f p h. let z : _≡_ {A = ℕ} 3 1 = h in absurd (omega arith);
+    exhausted = λ m piece d i v g f p h. absurd (eqb-false 3 1 refl h);
     contained = λ m piece d i v l w p h. (
       looked-inside (l .going) h,
       λ t low high. load-outward o t (bounded piece .rect) box (span-loads d i piece p t low high) (box-inside (bounded piece .rect) box (w .contained)),
     );
-    apart = λ m piece d i v l f p h. let z : _≡_ {A = ℕ} 2 1 = h in absurd (omega arith);
+    apart = λ m piece d i v l f p h. absurd (eqb-false 2 1 refl h);
     limit = λ piece d i v l f p h. absurd (noted-inside d i (l .going) h);
     halves = λ m piece d i v l f w u e g left right p h.
         let (left-inside, right-loads) = right (place-half c box d i piece p f (i * 2 + 1) 1 (omega arith) (omega arith)) h in
@@ -146,7 +147,7 @@ pub inside-means : InsideMeans
 unfolding Loads embed
 inside-means c box depth budget =
     by-answer c box depth budget (λ v. reported v .number ≡ inside → (o : Ordinary) → InsideOf o c → (t : Frac) → Between (whole (pos 0)) (whole (pos 1)) t → LoadIn o box t)
-    (λ e. let z : _≡_ {A = ℕ} 0 1 = e in absurd (omega arith))
+    (λ e. absurd (eqb-false 0 1 refl e))
     (λ f e o within-rectangles t b.
     walk-keeps box budget
     (λ m piece d i v u. Place c box d i piece → reported u .number ≡ inside → (reported v .number ≡ inside) × Loads c (f .accepted) box o within-rectangles d i box)
@@ -156,7 +157,7 @@ inside-means c box depth budget =
 -- an answer Outside is of an accepted curve
 outside-accepted : (c : Curve) (box : Rect) (depth budget : ℕ) → answered c box depth budget .number ≡ outside → Accepted c
 outside-accepted c box depth budget =
-    by-answer c box depth budget (λ v. reported v .number ≡ outside → Accepted c) (λ e. let z : _≡_ {A = ℕ} 0 2 = e in absurd (omega arith)) (λ f e. f .accepted)
+    by-answer c box depth budget (λ v. reported v .number ≡ outside → Accepted c) (λ e. absurd (eqb-false 0 2 refl e)) (λ f e. f .accepted)
 
 pub outside-means : OutsideMeans
 outside-means c box depth budget e o within-rectangles t b l =
