@@ -12,9 +12,9 @@ use Rattle.curve.specs.declared.Curve.{Curve}
 use Rattle.curve.specs.declared.Refusal.{Refusal}
 use Rattle.curve.specs.declared.Evaluation.{Evaluation}
 use Rattle.curve.specs.Rect.{zeroInterval}
-use Rattle.curve.specs.Curve.{point, curveOf}
-use Rattle.search.specs.declared.SearchAnswer.{SearchAnswer}
+use Rattle.search.specs.declared.Verdict.{Verdict}
 use Rattle.search.specs.Verdict.{reported}
+use Rattle.curve.specs.Curve.{point, curveOf}
 
 -- "values": one coordinate with low equal to high, the other zero
 abbrev pub valueAt : List ℤ → ℕ → Rect
@@ -46,8 +46,7 @@ resistancesFrom c (suc m) k = ends (point c k .resistance) ++ resistancesFrom c 
 unfoldable pub resistancesShown : Curve → List ℤ
 resistancesShown c = pos (c .degree) ∷ resistancesFrom c (c .degree + 1) 0
 
--- the refusal, then the verdict's number, depth, index and count
-abbrev pub searchShown : SearchAnswer → List ℤ
-searchShown a =
-    let r = reported (a .verdict) in
-    refusalShown (a .refusal) ++ (pos (r .number) ∷ pos (r .depth) ∷ pos (r .index) ∷ pos (r .count) ∷ [])
+-- the number of a walk's answer, the depth and the index of the piece that it names, and the count
+abbrev pub verdictShown : Verdict → List ℤ
+verdictShown v =
+    pos (reported v .number) ∷ pos (reported v .depth) ∷ pos (reported v .index) ∷ pos (reported v .count) ∷ []

@@ -1,0 +1,32 @@
+-- A number as a degree, by the two tests that the code makes of it, and back.
+-- Assumes nothing.
+use mathlib.Core.Path.{_≡_, refl, sym, _∙_}
+use mathlib.Core.Bool.{true, false, false≢true, true≢false}
+use native.Mathlib.Omega.{arith}
+use lib.Dec.{T, leb·zero}
+use lib.IntN.{ℤ, pos, negsuc, natAbs}
+use lib.Signed.{leZ, nonNeg}
+use mir.Syntax.{w32}
+use mir.Val.{Fits}
+use borrow.Author.Tests.{leb-true}
+use Rattle.curve.specs.Limits.{maxDegree}
+use Rattle.card_text.specs.Reading.{degreeOf}
+
+pub degree-in : (z : ℤ) → leZ (pos 0) z ≡ true → leZ z (pos maxDegree) ≡ true → natAbs z ≡ degreeOf z
+unfolding degreeOf
+degree-in (pos n) low high = rw high
+degree-in (negsuc n) low high = absurd (false≢true low)
+
+pub degree-high : (z : ℤ) → leZ (pos 0) z ≡ true → leZ z (pos maxDegree) ≡ false → 0 ≡ degreeOf z
+unfolding degreeOf
+degree-high (pos n) low high = rw high
+degree-high (negsuc n) low high = refl
+
+pub degree-low : (z : ℤ) → leZ (pos 0) z ≡ false → 0 ≡ degreeOf z
+unfolding degreeOf
+degree-low (pos n) low = absurd (true≢false (sym (leb·zero n) ∙ low))
+degree-low (negsuc n) low = refl
+
+pub degree-fits : (z : ℤ) → leZ (pos 0) z ≡ true → leZ z (pos maxDegree) ≡ true → T (nonNeg z) × Fits w32 (natAbs z)
+degree-fits (pos n) low high = (tt, record { fits = omega (arith, leb-true n maxDegree high) })
+degree-fits (negsuc n) low high = absurd (false≢true low)

@@ -1,0 +1,93 @@
+-- The writer's refusals and answers, case by case.
+-- Assumes nothing.
+use mathlib.Core.Path.{_≡_, sym, ap, _∙_}
+use mathlib.Core.Bool.{Bool, cond}
+use mathlib.Core.List.{List, _++_}
+use Prim.Native.Nat.{ℕ, _+_, _≤_, _<_}
+use native.Mathlib.Omega.{arith}
+use lib.Dec.{leb, eqb}
+use lib.ListN.{length, drop}
+use borrow.Author.Tests.{le-leb, lt-leb, leb-true, eq-eqb, ne-eqb}
+use Rattle.curve.specs.declared.Curve.{Curve}
+use Rattle.curve.specs.declared.Refusal.{Refusal}
+use Rattle.curve.specs.Curve.{point}
+use Rattle.curve.specs.Refusals.{refusal, none, _orElse_, curveRefusal, Accepted}
+use Rattle.curve.proofs.Refused.{or-first}
+use Rattle.curve.proofs.Accepted.{or-none, number-accepted, accepted-facts}
+use Rattle.card_text.specs.declared.CardWritten.{CardWritten}
+use Rattle.card_text.specs.Card.{header, rows, cardOf, headerLength, cardLength}
+use Rattle.card_text.specs.Reading.{unlessAt}
+use Rattle.card_text.specs.Writing.{writingRefusal, writeCard, bytesAfter}
+use Rattle.card_text.specs.Inner.{placed}
+use Rattle.card_text.proofs.Accepting.{or-zero, unless-zero}
+use Rattle.card_text.proofs.Fitting.{header-long, card-long}
+use Rattle.card_text.proofs.Placed.{placed-front, placed-then}
+
+module _ (c : Curve) (size : ℕ) where
+  -- 12, or none
+  lack : Refusal
+  lack = unlessAt (leb (cardLength (c .degree)) size) 12 (cardLength (c .degree))
+
+  -- 1 to 3
+  pub writing-refused : {r : Refusal} → r ≡ curveRefusal c → (r .number ≡ 0 → ⊥) → r ≡ writingRefusal c size
+  unfolding writingRefusal lack
+  writing-refused {r} e some = or-first r lack some ∙ ap (λ (x : Refusal). x orElse lack) e
+
+  -- 12
+  pub writing-short : Accepted c → size < cardLength (c .degree) → writingRefusal c size ≡ refusal 12 (cardLength (c .degree))
+  unfolding writingRefusal lack
+  writing-short ok h =
+      or-none (curveRefusal c) lack ok ∙ ap (λ (b : Bool). unlessAt b 12 (cardLength (c .degree))) (lt-leb (cardLength (c .degree)) size h)
+
+  -- none
+  pub writing-accepted : Accepted c → cardLength (c .degree) ≤ size → writingRefusal c size ≡ none
+  unfolding writingRefusal lack
+  writing-accepted ok h =
+      or-none (curveRefusal c) lack ok ∙ ap (λ (b : Bool). unlessAt b 12 (cardLength (c .degree))) (le-leb (cardLength (c .degree)) size h)
+
+  -- number 0 says that the curve is accepted and that there is room
+  pub writing-zero : writingRefusal c size .number ≡ 0 → Accepted c × (cardLength (c .degree) ≤ size)
+  unfolding writingRefusal
+  writing-zero h =
+      let (first, second) = or-zero (curveRefusal c) (unlessAt (leb (cardLength (c .degree)) size) 12 (cardLength (c .degree))) h in
+      (number-accepted c first, leb-true (cardLength (c .degree)) size (unless-zero (leb (cardLength (c .degree)) size) 11 (cardLength (c .degree)) second))
+
+-- ---- the answer, by the test of the refusal's number
+
+module _ (c : Curve) (out : List ℕ) where
+  abbrev lengthIf : Bool → Refusal → CardWritten
+  lengthIf b r = cond b (record { refusal = r; length = cardLength (c .degree) }) (record { refusal = r; length = 0 })
+
+  abbrev bytesIf : Bool → List ℕ
+  bytesIf b = cond b (cardOf c ++ drop (cardLength (c .degree)) out) out
+
+  module _ {r : Refusal} (e : r ≡ writingRefusal c (length out)) where
+    to-length : lengthIf (eqb (r .number) 0) r ≡ writeCard c out
+    unfolding writeCard
+    to-length = ap (λ (x : Refusal). lengthIf (eqb (x .number) 0) x) e
+
+    to-bytes : bytesIf (eqb (r .number) 0) ≡ bytesAfter c out
+    unfolding bytesAfter
+    to-bytes = ap (λ (x : Refusal). bytesIf (eqb (x .number) 0)) e
+
+    pub write-refused : (r .number ≡ 0 → ⊥) → (record { refusal = r; length = 0 } ≡ writeCard c out) × (out ≡ bytesAfter c out)
+    write-refused h =
+        let t = sym (ne-eqb (r .number) 0 h) in
+        (ap (λ (b : Bool). lengthIf b r) t ∙ to-length, ap bytesIf t ∙ to-bytes)
+
+    pub write-accepted : r .number ≡ 0 →
+        (record { refusal = r; length = cardLength (c .degree) } ≡ writeCard c out) × (cardOf c ++ drop (cardLength (c .degree)) out ≡ bytesAfter c out)
+    write-accepted h =
+        let t = sym (eq-eqb (r .number) 0 h) in
+        (ap (λ (b : Bool). lengthIf b r) t ∙ to-length, ap bytesIf t ∙ to-bytes)
+
+  -- the lines written one after the other
+  pub card-placed : Accepted c → cardLength (c .degree) ≤ length out → {first last : List ℕ} →
+      first ≡ placed out 0 (header (c .degree)) → last ≡ placed first headerLength (rows (c .degree + 1) (point c)) →
+      last ≡ cardOf c ++ drop (cardLength (c .degree)) out
+  unfolding cardOf
+  card-placed ok room {first} {last} e f =
+      f
+      ∙ placed-then out 0 headerLength (header (c .degree)) (rows (c .degree + 1) (point c)) first (header-long (c .degree) (accepted-facts c ok .few)) (omega arith) e
+      ∙ placed-front out (cardOf c)
+      ∙ ap (λ (n : ℕ). cardOf c ++ drop n out) (card-long c ok)

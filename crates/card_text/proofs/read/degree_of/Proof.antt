@@ -1,0 +1,37 @@
+-- `degree_of` meets its contract: the two tests pick the definition's cases.
+-- Assumes nothing.
+use mathlib.Core.Path.{_≡_, sym}
+use mathlib.Core.Logic.{⊎-elim}
+use borrow.Author.Needs.{needs}
+use mir.Syntax.{w64}
+use mir.Val.{toZ, ofZ}
+use mir.ValLaws.{toZ-ofZ}
+use Rattle.card_text.proofs.Degree.{degree-in, degree-low, degree-high, degree-fits}
+use Rattle.card_text.proofs.read.degree_of.Statement.{statement}
+use Rattle.card_text.proofs.read.degree_of.Tie as tie
+
+-- the value as the tests see it
+value : (s : tie.Start) → toZ w64 (ofZ w64 (s .args .value)) ≡ s .args .value
+value s = toZ-ofZ w64 (s .args .value) (s .fits .value)
+
+cast-if2 : tie.Need-cast-if2
+cast-if2 c = search needs
+
+cast-result : tie.Need-cast-result
+cast-result c =
+    let e = value (c .before .before) in
+    rw e (degree-fits (c .before .before .args .value) (rw e at (c .before .if1 .taken)) (rw e at (c .if2 .taken)))
+
+returns : tie.Need-returns
+returns c =
+    let e = value (c .before .before) in
+    rw e (degree-in (c .before .before .args .value) (rw e at (c .before .if1 .taken)) (rw e at (c .if2 .taken)))
+
+returns-2 : tie.Need-returns-2
+returns-2 c =
+    let z = c .before .args .value in
+    let e = value (c .before) in
+    ⊎-elim (λ w. degree-high z (rw e at (w .0 .taken)) (rw e at (w .1 .left))) (λ w. degree-low z (rw e at (w .left))) (c .if1 .came)
+
+pub degree-of-spec : {M : Type 1} → statement M
+degree-of-spec = tie.close (tie.spec cast-if2 cast-result returns returns-2)

@@ -1,0 +1,71 @@
+-- `write_card` meets its contract: a refusal and an untouched buffer, or the first line and the others behind it.
+-- Assumes nothing.
+use mathlib.Core.Path.{_≡_, sym, ap, _∙_, subst}
+use Prim.Native.Nat.{ℕ, _≤_}
+use native.Mathlib.Omega.{arith}
+use lib.ListN.{length}
+use borrow.Author.Needs.{needs}
+use Rattle.curve.specs.declared.Refusal.{Refusal}
+use Rattle.curve.specs.Refusals.{Accepted}
+use Rattle.curve.proofs.Accepted.{accepted-facts}
+use Rattle.card_text.specs.Card.{cardLength}
+use Rattle.card_text.proofs.WritingAnswer.{writing-zero, write-refused, write-accepted, card-placed}
+use Rattle.card_text.proofs.write_card.Statement.{statement}
+use Rattle.card_text.proofs.write_card.Tie as tie
+
+writing-refusal-requires : tie.Need-writing-refusal-requires
+writing-refusal-requires c κs = search needs
+
+returns : tie.Need-returns
+returns c =
+    let a = c .before .before .before .before .args in
+    write-refused (a .c) (a .out .now) (c .before .before .writing-refusal .ensures) (c .if1 .taken)
+
+-- past the test the curve is accepted and the card has room
+accepted : (c : tie.Else1) →
+    Accepted (c .before .before .before .before .args .c) × (cardLength (c .before .before .before .before .args .c .degree) ≤ length (c .before .before .before .before .args .out .now))
+accepted c =
+    let a = c .before .before .before .before .args in
+    writing-zero (a .c) (length (a .out .now)) (subst (λ (r : Refusal). r .number ≡ 0) (c .before .before .writing-refusal .ensures) (c .if1 .left))
+
+few : (c : tie.Else1) → c .before .before .before .before .args .c .degree ≤ 8
+few c = accepted-facts _ (accepted c .0) .few
+
+write-header-requires : tie.Need-write-header-requires
+write-header-requires c κs = (few (c .before), omega (arith, accepted (c .before) .1))
+
+write-rows-requires : tie.Need-write-rows-requires
+write-rows-requires c κs =
+    let h = c .before .before .before in
+    let (ok, room) = accepted (h .before .before) in
+    (ok, omega (arith, room, h .write-header .kept .0))
+
+card-length-requires : tie.Need-card-length-requires
+card-length-requires c κs = few (c .before .before .before .before .before .before .before .before)
+
+same-length : tie.Need-same-length
+same-length c = search needs
+
+returns-2 : tie.Need-returns-2
+returns-2 c =
+    let w = c .before .before .before in
+    let h = w .before .before .before .before in
+    let e = h .before .before in
+    let a = e .before .before .before .before .args in
+    let (ok, room) = accepted e in
+    let (answer, bytes) = write-accepted (a .c) (a .out .now) (e .before .before .writing-refusal .ensures) (e .if1 .left) in (
+      rw (c .card-length .ensures) answer,
+      card-placed (a .c) (a .out .now) ok room (h .write-header .ensures) (w .write-rows .ensures) ∙ bytes,
+    )
+
+pub write-card-spec : {M : Type 1} → statement M
+write-card-spec =
+    tie.close
+    (tie.spec
+    writing-refusal-requires
+    returns
+    write-header-requires
+    write-rows-requires
+    card-length-requires
+    same-length
+    returns-2)

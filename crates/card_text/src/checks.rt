@@ -1,0 +1,94 @@
+// The refusals of a card beside those of its columns: the first of two, lengths and line ends.
+ghost use mathlib.Core.Path.{_≡_};
+ghost use Prim.Native.Nat.{_≤_, _<_};
+ghost use lib.ListN.{length};
+ghost use Rattle.curve.specs.Limits.{maxDegree};
+ghost use Rattle.curve.specs.Refusals.{_orElse_};
+ghost use Rattle.card_text.specs.Card.{cardLength};
+ghost use Rattle.card_text.specs.Reading.{lineEndRefusal};
+ghost use Rattle.card_text.specs.Inner.{sizeRefusal};
+ghost use Rattle.card_text.specs.Writing.{writingRefusal};
+use curve::Curve;
+use curve::MAX_DEGREE;
+use curve::Refusal;
+use curve::curve_refusal;
+
+// The bytes of the first line, and of each other line.
+pub const HEADER_LENGTH: usize = 11;
+
+pub const ROW_LENGTH: usize = 41;
+
+// The byte that ends a line.
+pub const NEWLINE: u8 = 10;
+
+// The first refusal, and the second where the first is none.
+pub fn first_of(a: Refusal, b: Refusal) -> Refusal
+    ensures { λ r. ⌜ r ≡ (a orElse b) ⌝ }
+{
+    if a.number != 0 { a } else { b }
+}
+
+// The bytes of a card of this degree.
+pub fn card_length(degree: u32) -> usize
+    requires { ⌜ degree ≤ maxDegree ⌝ }
+    ensures { λ r. ⌜ r ≡ cardLength degree ⌝ }
+{
+    HEADER_LENGTH + ROW_LENGTH * (degree as usize + 1)
+}
+
+// 11 where the byte at an offset does not end a line.
+pub fn line_end_refusal(bytes: &[u8], at: usize) -> Refusal
+    requires { ⌜ at < length (now bytes) ⌝ }
+    ensures { λ r. ⌜ r ≡ lineEndRefusal (now (bytes .entry)) at ⌝ }
+{
+    if bytes[at] == NEWLINE {
+        return Refusal {
+            number: 0,
+            place: 0,
+        };
+    }
+    Refusal {
+        number: 11,
+        place: at,
+    }
+}
+
+// 1 where this is no degree, and else 10 where this is not the length for the degree.
+pub fn size_refusal(degree: u32, size: usize) -> Refusal
+    ensures { λ r. ⌜ r ≡ sizeRefusal degree size ⌝ }
+{
+    if degree < 1 || MAX_DEGREE < degree {
+        return Refusal {
+            number: 1,
+            place: 0,
+        };
+    }
+    if size == card_length(degree) {
+        return Refusal {
+            number: 0,
+            place: 0,
+        };
+    }
+    Refusal {
+        number: 10,
+        place: size,
+    }
+}
+
+// 1 to 3, then 12 where a buffer of this size is shorter than the card.
+pub fn writing_refusal(c: Curve, size: usize) -> Refusal
+    ensures { λ r. ⌜ r ≡ writingRefusal c size ⌝ }
+{
+    let refusal = curve_refusal(c);
+    if refusal.number != 0 {
+        return refusal;
+    }
+    let length = card_length(c.degree);
+    if size < length {
+        return Refusal {
+            number: 12,
+            place: length,
+        };
+    }
+    refusal
+}

@@ -1,0 +1,183 @@
+//! The card's text: columns ten bytes wide, lines of columns, and the card that they make.
+
+use crate::model::{refuse_if, Curve, Rectangle, Refusal, MOST_DEGREE};
+use std::io::Write;
+
+pub const COLUMN: usize = 10;
+pub const FIRST_LINE: usize = 11;
+pub const LINE: usize = 41;
+pub const LINE_END: u8 = 10;
+
+/// The ten bytes of a number set to the right.
+fn column_of(number: i64) -> Option<[u8; COLUMN]> {
+    let mut column = [b' '; COLUMN];
+    write!(&mut column[..], "{number:>10}").ok()?;
+    Some(column)
+}
+
+/// The number of a column, where there is one whose ten bytes these are.
+pub fn number_of(column: &[u8]) -> Option<i64> {
+    let text = std::str::from_utf8(column).ok()?;
+    let number = text.trim_start_matches(' ').parse().ok()?;
+    let same = column_of(number)? == *column;
+    same.then_some(number)
+}
+
+/// One line of columns.
+pub fn line_of(numbers: &[i64]) -> Vec<u8> {
+    let mut line = Vec::with_capacity(COLUMN * numbers.len() + 1);
+    for number in numbers {
+        line.extend(column_of(*number).expect("a number of at most ten characters"));
+    }
+    line.push(LINE_END);
+    line
+}
+
+pub fn card_length(degree: usize) -> usize {
+    FIRST_LINE + LINE * (degree + 1)
+}
+
+/// The card of a curve, whose sides may be out of range.
+pub fn card_of(curve: &Curve) -> Vec<u8> {
+    let mut card = line_of(&[curve.degree as i64]);
+    for rectangle in curve.rectangles() {
+        card.extend(line_of(rectangle));
+    }
+    card
+}
+
+/// The numbers of the line at an offset, or refusal 11 in byte order.
+fn numbers_at<const N: usize>(bytes: &[u8], offset: usize) -> Result<[i64; N], Refusal> {
+    let mut numbers = [0; N];
+    for (c, number) in numbers.iter_mut().enumerate() {
+        let first = offset + COLUMN * c;
+        let read = number_of(&bytes[first..first + COLUMN]);
+        refuse_if(read.is_none(), 11, first)?;
+        *number = read.unwrap_or(0);
+    }
+    let end = offset + COLUMN * N;
+    refuse_if(bytes[end] != LINE_END, 11, end)?;
+    Ok(numbers)
+}
+
+/// The numbers of the line that some bytes begin with, where they do.
+pub fn numbers_in<const N: usize>(bytes: &[u8]) -> Option<[i64; N]> {
+    let line = bytes.get(..COLUMN * N + 1)?;
+    numbers_at(line, 0).ok()
+}
+
+/// The degree in the first line: refusals 10 (short), 11 and 1.
+pub fn degree_of(card: &[u8]) -> Result<usize, Refusal> {
+    refuse_if(card.len() < FIRST_LINE, 10, card.len())?;
+    let [degree] = numbers_at(card, 0)?;
+    refuse_if(degree < 1 || degree > MOST_DEGREE as i64, 1, 0)?;
+    Ok(degree as usize)
+}
+
+/// The curve of a card, or the card's refusal.
+pub fn curve_of(card: &[u8]) -> Result<Curve, Refusal> {
+    let degree = degree_of(card)?;
+    refuse_if(card.len() != card_length(degree), 10, card.len())?;
+    let mut rectangles: Vec<Rectangle> = Vec::new();
+    for k in 0..=degree {
+        rectangles.push(numbers_at(card, FIRST_LINE + LINE * k)?);
+    }
+    let curve = Curve::new(&rectangles);
+    curve.test()?;
+    Ok(curve)
+}
+
+#[cfg(test)]
+mod tests {
+    use super::*;
+    use crate::examples::CARD;
+
+    fn refused(card: &[u8]) -> (i64, i64) {
+        let refusal = curve_of(card).unwrap_err();
+        (refusal.number, refusal.place)
+    }
+
+    /// The example card with some bytes replaced.
+    fn changed(offset: usize, text: &str) -> Vec<u8> {
+        let mut card = CARD.to_vec();
+        card[offset..offset + text.len()].copy_from_slice(text.as_bytes());
+        card
+    }
+
+    #[test]
+    fn reads_and_writes_the_example() {
+        let curve = curve_of(CARD).unwrap();
+        assert_eq!(curve, Curve::new(&[[0, 1, -3, -3], [1, 3, 0, 2]]));
+        assert_eq!(card_of(&curve), CARD);
+        assert_eq!((card_length(1), card_length(8)), (93, 380));
+    }
+
+    #[test]
+    fn knows_a_column() {
+        let sound = [
+            "         0",
+            "        -1",
+            "9999999999",
+            "-999999999",
+            " 123456789",
+        ];
+        for text in sound {
+            assert_eq!(
+                number_of(text.as_bytes()),
+                text.trim().parse().ok(),
+                "{text}"
+            );
+        }
+        let malformed = [
+            "          ",
+            "        +1",
+            "        01",
+            "        -0",
+            "       - 1",
+            "1         ",
+            "      1 2 ",
+            "         -",
+            "       --1",
+            "0000000000",
+            "        1.",
+            "\t        1",
+            "         a",
+            "       -01",
+        ];
+        for text in malformed {
+            assert_eq!(number_of(text.as_bytes()), None, "{text}");
+        }
+        assert_eq!(number_of(&[0xff; 10]), None);
+    }
+
+    #[test]
+    fn refuses_the_first_line_before_the_length() {
+        assert_eq!(refused(b""), (10, 0));
+        assert_eq!(refused(b"x         "), (10, 10));
+        assert_eq!(refused(b"         x\n"), (11, 0));
+        assert_eq!(refused(b"         9x"), (11, 10));
+        assert_eq!(refused(b"         9\n"), (1, 0));
+        assert_eq!(refused(b"9999999999\n"), (1, 0));
+        assert_eq!(refused(b"        -1\n"), (1, 0));
+        assert_eq!(refused(b"         1\n"), (10, 11));
+        assert_eq!(refused(&[CARD, b"\n"].concat()), (10, 94));
+    }
+
+    #[test]
+    fn refuses_the_other_lines_in_byte_order() {
+        assert_eq!(refused(&changed(31, "x")), (11, 31));
+        assert_eq!(refused(&changed(40, "x")), (11, 31));
+        assert_eq!(refused(&changed(51, " ")), (11, 51));
+        assert_eq!(refused(&changed(92, "x")), (11, 92));
+        assert_eq!(refused(&changed(50, "xx")), (11, 41));
+        assert_eq!(refused(&changed(52, "  16777217")), (2, 1));
+        assert_eq!(refused(&changed(11, "9999999999")), (2, 0));
+        assert_eq!(refused(&changed(11, "         2")), (3, 0));
+        let both = [
+            &changed(11, "         2")[..52],
+            &changed(52, "  16777217")[52..],
+        ]
+        .concat();
+        assert_eq!(refused(&both), (2, 1));
+    }
+}

@@ -1,0 +1,20 @@
+//! The second program: document 01 written again in ordinary Rust, from the paper and not from the
+//! proved code, and what runs it beside the proved programs.
+
+pub mod call;
+pub mod card;
+pub mod cases;
+pub mod chance;
+pub mod damage;
+pub mod examples;
+pub mod ledger;
+pub mod model;
+pub mod natural;
+pub mod panel;
+pub mod process;
+pub mod replay;
+pub mod session;
+pub mod shown;
+pub mod tally;
+pub mod text;
+pub mod walk;

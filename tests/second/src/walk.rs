@@ -1,0 +1,144 @@
+//! The walk over a box by the paper's rules, with the pieces that are due on a list.
+
+use crate::model::{low_above_high, out_of_range, refuse_if, Curve, Parameter, Rectangle, Refusal};
+
+#[derive(Clone, Copy, PartialEq, Debug)]
+pub enum Verdict {
+    Inside,
+    Outside { depth: i64, index: i64 },
+    Spent,
+    Undecided { depth: i64, index: i64 },
+}
+
+/// What a walk is given beside the curve.
+#[derive(Clone, Copy, PartialEq, Debug)]
+pub struct Walk {
+    pub area: Rectangle,
+    pub depth: i64,
+    pub budget: i64,
+}
+
+struct Piece {
+    curve: Curve,
+    depth: i64,
+    index: i64,
+}
+
+impl Walk {
+    /// The verdict and the number of pieces looked at.
+    pub fn over(&self, curve: &Curve) -> Result<(Verdict, i64), Refusal> {
+        curve.test()?;
+        refuse_if(out_of_range(&self.area) || low_above_high(&self.area), 7, 0)?;
+        refuse_if(self.depth > 12, 8, 0)?;
+        refuse_if(self.budget < 1 || self.budget > 8_191, 9, 0)?;
+        self.all_pieces(Piece {
+            curve: *curve,
+            depth: 0,
+            index: 0,
+        })
+    }
+
+    fn all_pieces(&self, whole: Piece) -> Result<(Verdict, i64), Refusal> {
+        let mut due = vec![whole];
+        let mut count = 0;
+        let mut noted = None;
+        while let Some(Piece {
+            curve,
+            depth,
+            index,
+        }) = due.pop()
+        {
+            if count == self.budget {
+                return Ok((Verdict::Spent, count));
+            }
+            count += 1;
+            let span = curve.span()?;
+            if lies_in(&span, &self.area) {
+                continue;
+            }
+            if have_no_common_point(&span, &self.area) {
+                return Ok((Verdict::Outside { depth, index }, count));
+            }
+            if depth == self.depth {
+                noted = noted.or(Some(Verdict::Undecided { depth, index }));
+                continue;
+            }
+            let (left, right) = curve.cut(Parameter { num: 1, den: 2 })?;
+            due.push(Piece {
+                curve: right,
+                depth: depth + 1,
+                index: 2 * index + 1,
+            });
+            due.push(Piece {
+                curve: left,
+                depth: depth + 1,
+                index: 2 * index,
+            });
+        }
+        Ok((noted.unwrap_or(Verdict::Inside), count))
+    }
+}
+
+fn lies_in(inner: &Rectangle, outer: &Rectangle) -> bool {
+    outer[0] <= inner[0] && inner[1] <= outer[1] && outer[2] <= inner[2] && inner[3] <= outer[3]
+}
+
+fn have_no_common_point(a: &Rectangle, b: &Rectangle) -> bool {
+    a[1] < b[0] || b[1] < a[0] || a[3] < b[2] || b[3] < a[2]
+}
+
+#[cfg(test)]
+mod tests {
+    use super::*;
+
+    /// Resistance values 0, 4 and reactance values 0, 0.
+    fn walked(area: Rectangle, depth: i64, budget: i64) -> Result<(Verdict, i64), Refusal> {
+        let curve = Curve::new(&[[0; 4], [4, 4, 0, 0]]);
+        Walk {
+            area,
+            depth,
+            budget,
+        }
+        .over(&curve)
+    }
+
+    #[test]
+    fn ends_as_the_examples_say() {
+        let half = [0, 2, 0, 0];
+        assert_eq!(
+            walked(half, 2, 5),
+            Ok((Verdict::Outside { depth: 2, index: 3 }, 5))
+        );
+        assert_eq!(walked(half, 2, 4), Ok((Verdict::Spent, 4)));
+        assert_eq!(
+            walked(half, 1, 5),
+            Ok((Verdict::Undecided { depth: 1, index: 1 }, 3))
+        );
+        assert_eq!(walked([0, 4, 0, 0], 12, 8_191), Ok((Verdict::Inside, 1)));
+    }
+
+    #[test]
+    fn refuses_in_number_order() {
+        let refused = |number| Err(Refusal { number, place: 0 });
+        assert_eq!(walked([1, 0, 0, 0], 13, 0), refused(7));
+        assert_eq!(walked([0, 16_777_217, 0, 0], 13, 0), refused(7));
+        assert_eq!(walked([0; 4], 13, 0), refused(8));
+        assert_eq!(walked([0; 4], 12, 0), refused(9));
+        assert_eq!(walked([0; 4], 12, 8_192), refused(9));
+    }
+
+    #[test]
+    fn is_never_spent_at_the_whole_budget() {
+        let curve = Curve::new(&[[-1, 1, -1, 1]; 9]);
+        let walk = Walk {
+            area: [0; 4],
+            depth: 12,
+            budget: 8_191,
+        };
+        let first = Verdict::Undecided {
+            depth: 12,
+            index: 0,
+        };
+        assert_eq!(walk.over(&curve), Ok((first, 8_191)));
+    }
+}
