@@ -41,9 +41,9 @@ module _ (c : Curve) where
   piece-half d k i bit e f = ap₂ (λ (b j : ℕ). halfOf b (subdivided (pieceAt c d j) 1 2)) f e
 
   module _ (box : Rect) where
-    across-over : (piece : Curve) → Crossing box piece → isAcross box piece ≡ true
+    across-crossing : (piece : Curve) → Crossing box piece → isAcross box piece ≡ true
     unfolding isAcross
-    across-over piece o = rw (o .outside, o .touching)
+    across-crossing piece o = rw (o .outside, o .touching)
 
     across-within : (piece : Curve) → Within box piece → isAcross box piece ≡ false
     unfolding isAcross
@@ -66,11 +66,11 @@ module _ (c : Curve) where
 
     place-across : (d i : ℕ) (piece : Curve) → Place d i piece → Crossing box piece → acrossTo c box d i ≡ true
     unfolding acrossTo pieceAt
-    place-across zero i piece p o = subst (λ (q : Curve). isAcross box q ≡ true) (p .is) (across-over piece o)
+    place-across zero i piece p o = subst (λ (q : Curve). isAcross box q ≡ true) (p .is) (across-crossing piece o)
     place-across (suc d) i piece p o =
-        ap₂ _&&_ (p .above) (subst (λ (q : Curve). isAcross box q ≡ true) (p .is) (across-over piece o))
+        ap₂ _&&_ (p .above) (subst (λ (q : Curve). isAcross box q ≡ true) (p .is) (across-crossing piece o))
 
-    -- so are both halves of a piece across
+    -- so are both halves of a piece that lies across
     pub place-half :
         (d i : ℕ) (piece : Curve) → Place d i piece → Crossing box piece →
         (k bit : ℕ) → k / 2 ≡ i → k % 2 ≡ bit → Place (d + 1) k (halfOf bit (subdivided piece 1 2))
