@@ -5,8 +5,8 @@ use lib.Signed.{ltZ}
 use Rattle.curve.proofs.Machine.{told}
 use Rattle.search.specs.Box.{disjoint}
 use Rattle.search.proofs.Tests.{or-yes, or-no}
-use Rattle.search.proofs.lies.intervals_disjoint.Statement.{statement}
-use Rattle.search.proofs.lies.intervals_disjoint.Tie as tie
+use Rattle.search.proofs.boxes.intervals_disjoint.Statement.{statement}
+use Rattle.search.proofs.boxes.intervals_disjoint.Tie as tie
 
 returns : tie.Need-returns
 unfolding disjoint

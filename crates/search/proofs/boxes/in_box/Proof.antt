@@ -4,8 +4,8 @@ use mathlib.Core.Path.{sym, _∙_}
 use borrow.Author.Needs.{needs}
 use Rattle.curve.proofs.Machine.{and-yes, and-no}
 use Rattle.search.specs.Box.{inBox}
-use Rattle.search.proofs.lies.in_box.Statement.{statement}
-use Rattle.search.proofs.lies.in_box.Tie as tie
+use Rattle.search.proofs.boxes.in_box.Statement.{statement}
+use Rattle.search.proofs.boxes.in_box.Tie as tie
 
 interval-within-requires : tie.Need-interval-within-requires
 interval-within-requires c κs = search needs

@@ -4,8 +4,8 @@ use mathlib.Core.Path.{ap₂, _∙_, sym}
 use lib.Signed.{leZ}
 use Rattle.curve.proofs.Machine.{told, and-yes, and-no}
 use Rattle.search.specs.Box.{within}
-use Rattle.search.proofs.lies.interval_within.Statement.{statement}
-use Rattle.search.proofs.lies.interval_within.Tie as tie
+use Rattle.search.proofs.boxes.interval_within.Statement.{statement}
+use Rattle.search.proofs.boxes.interval_within.Tie as tie
 
 returns : tie.Need-returns
 unfolding within

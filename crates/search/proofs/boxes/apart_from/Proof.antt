@@ -4,8 +4,8 @@ use mathlib.Core.Path.{sym, _∙_}
 use borrow.Author.Needs.{needs}
 use Rattle.search.specs.Box.{apartFrom}
 use Rattle.search.proofs.Tests.{or-yes, or-no}
-use Rattle.search.proofs.lies.apart_from.Statement.{statement}
-use Rattle.search.proofs.lies.apart_from.Tie as tie
+use Rattle.search.proofs.boxes.apart_from.Statement.{statement}
+use Rattle.search.proofs.boxes.apart_from.Tie as tie
 
 intervals-disjoint-requires : tie.Need-intervals-disjoint-requires
 intervals-disjoint-requires c κs = search needs

@@ -4,8 +4,8 @@ use mathlib.Core.Path.{sym, _∙_}
 use borrow.Author.Needs.{needs}
 use Rattle.curve.proofs.Machine.{and-yes, and-no}
 use Rattle.search.specs.Box.{isBox}
-use Rattle.search.proofs.lies.is_box.Statement.{statement}
-use Rattle.search.proofs.lies.is_box.Tie as tie
+use Rattle.search.proofs.boxes.is_box.Statement.{statement}
+use Rattle.search.proofs.boxes.is_box.Tie as tie
 
 sides-in-range-requires : tie.Need-sides-in-range-requires
 sides-in-range-requires c κs = search needs
