@@ -1,9 +1,9 @@
 -- The card of an accepted curve is read, without a refusal, as the curve.
 -- Assumes nothing.
 use mathlib.Core.Path.{_≡_, refl, sym, ap, ap₂, _∙_}
-use mathlib.Core.Bool.{Bool, _&&_}
+use mathlib.Core.Bool.{_&&_}
 use mathlib.Core.List.{List}
-use Prim.Native.Nat.{ℕ, _+_, _*_, _≤_, _<_}
+use Prim.Native.Nat.{ℕ, _+_, _*_, _≤_}
 use native.Mathlib.Omega.{arith}
 use lib.Dec.{leb, eqb}
 use lib.ListN.{length}
@@ -13,15 +13,15 @@ use Rattle.curve.specs.declared.Enclosure.{Enclosure}
 use Rattle.curve.specs.declared.Rect.{Rect}
 use Rattle.curve.specs.declared.Refusal.{Refusal}
 use Rattle.curve.specs.Limits.{maxDegree}
-use Rattle.curve.specs.Curve.{point, curveOf, pointsOf, SameCurve}
+use Rattle.curve.specs.Curve.{point, curveOf, SameCurve}
 use Rattle.curve.specs.Refusals.{none, unless, curveRefusal, degreeRefusal, Accepted}
 use Rattle.curve.proofs.Accepted.{accepted-ready}
 use Rattle.curve.proofs.Answers.{bounded-refusal}
 use Rattle.curve.proofs.PastUnread.{past-unread}
 use Rattle.curve.proofs.Places.{points-agree}
 use Rattle.curve.proofs.Points.{point-at}
-use Rattle.card_text.specs.Card.{header, row, rows, cardOf, headerLength, rowLength, cardLength, rowAt}
-use Rattle.card_text.specs.Reading.{numberAt, degreeOf, rectAt, decoded, columnRefusal, lineEndRefusal, shortRefusal, lengthRefusal, headerRefusal, rowRefusal, rowsRefusal, cardRefusal, readCard}
+use Rattle.card_text.specs.Card.{header, rows, cardOf, headerLength, rowLength, cardLength, rowAt}
+use Rattle.card_text.specs.Reading.{degreeOf, rectAt, decoded, columnRefusal, lineEndRefusal, shortRefusal, lengthRefusal, headerRefusal, rowRefusal, rowsRefusal, cardRefusal, readCard}
 use Rattle.card_text.proofs.Accepting.{or-none, unless-none}
 use Rattle.card_text.proofs.Degree.{degree-of-pos}
 use Rattle.card_text.proofs.Fitting.{header-long, row-long, rows-long, card-long}

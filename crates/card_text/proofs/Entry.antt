@@ -3,7 +3,7 @@
 use mathlib.Core.Path.{_≡_, refl, sym, ap, _∙_}
 use mathlib.Core.Bool.{true, false≢true}
 use mathlib.Core.List.{List, [], _∷_, _++_}
-use Prim.Native.Nat.{ℕ, suc, _+_, _≤_, _<_}
+use Prim.Native.Nat.{ℕ, suc, _<_}
 use native.Mathlib.Nat.{add-zero}
 use native.Mathlib.Decide.{decLt}
 use native.Mathlib.Omega.{arith}
@@ -18,7 +18,7 @@ use Rattle.columns.specs.Column.{column, readAt}
 use Rattle.columns.proofs.Promises.{column-is-ten, column-reads, read-is-written}
 use Rattle.curve.specs.Refusals.{refusal, none}
 use Rattle.card_text.specs.Card.{newline}
-use Rattle.card_text.specs.Reading.{wellFormed, numberOf, numberAt, unlessAt, columnRefusal, lineEndRefusal}
+use Rattle.card_text.specs.Reading.{wellFormed, numberOf, numberAt, columnRefusal, lineEndRefusal}
 use Rattle.card_text.proofs.Accepting.{unless-zero, unless-none}
 use Rattle.card_text.proofs.Stands.{Stands}
 

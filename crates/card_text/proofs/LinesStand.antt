@@ -4,20 +4,19 @@ use mathlib.Core.Path.{_≡_, refl, sym, ap, ap₂, _∙_, subst}
 use mathlib.Core.List.{List, [], _∷_, _++_}
 use Prim.Native.Nat.{ℕ, zero, suc, _+_, _*_, _≤_, _<_}
 use native.Mathlib.Omega.{arith}
-use lib.IntN.{ℤ, pos}
-use lib.ListN.{length}
+use lib.IntN.{ℤ}
 use Rattle.columns.specs.Column.{column}
 use Rattle.curve.specs.declared.Rect.{Rect}
 use Rattle.curve.specs.Limits.{maxDegree}
-use Rattle.curve.specs.Curve.{point, curveOf}
+use Rattle.curve.specs.Curve.{point}
 use Rattle.curve.proofs.Points.{point-at}
-use Rattle.card_text.specs.Card.{newline, header, ends, row, rows, cardOf, rowLength, rowAt, headerLength, cardLength}
+use Rattle.card_text.specs.Card.{newline, header, ends, row, rows, cardOf, rowLength, rowAt, headerLength}
 use Rattle.card_text.specs.Reading.{numberAt, degreeOf, intervalAt, rectAt, decoded, columnRefusal, lineEndRefusal, endsRefusal, rowRefusal, rowsRefusal}
 use Rattle.card_text.proofs.Accepting.{or-zero}
 use Rattle.card_text.proofs.Degree.{degree-back}
 use Rattle.card_text.proofs.Entry.{entry-stands, end-stands}
 use Rattle.card_text.proofs.ReadingAnswer.{FirstLine}
-use Rattle.card_text.proofs.Stands.{Stands, stands-none, stands-both, stands-at, stands-sized, stands-is}
+use Rattle.card_text.proofs.Stands.{Stands, stands-none, stands-both, stands-sized, stands-is}
 
 -- lines of equal rectangles
 pub rows-agree : (m : ℕ) {P Q : ℕ → Rect} → ((k : ℕ) → k < m → P k ≡ Q k) → rows m P ≡ rows m Q

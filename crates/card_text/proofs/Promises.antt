@@ -11,7 +11,7 @@ use lib.Seq.{take-at}
 use Rattle.curve.specs.declared.Curve.{Curve}
 use Rattle.curve.specs.declared.Refusal.{Refusal}
 use Rattle.curve.specs.Rect.{zeroRect}
-use Rattle.curve.specs.Curve.{point, curveOf, zeroCurve, SameCurve}
+use Rattle.curve.specs.Curve.{point, zeroCurve, SameCurve}
 use Rattle.curve.specs.Refusals.{none, _orElse_, curveRefusal, Accepted}
 use Rattle.curve.proofs.Accepted.{accepted-facts, number-accepted}
 use Rattle.curve.proofs.Points.{point-past}
