@@ -41,7 +41,7 @@ write-rows-requires c κs =
     (ok, omega (arith, room, h .write-header .kept .0))
 
 card-length-requires : tie.Need-card-length-requires
-card-length-requires c κs = few (c .before .before .before .before .before .before .before .before)
+card-length-requires c κs = search needs
 
 same-length : tie.Need-same-length
 same-length c = search needs
