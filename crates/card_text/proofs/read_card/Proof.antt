@@ -3,7 +3,6 @@
 use mathlib.Core.Path.{_≡_, sym, ap, ap₂, _∙_, subst}
 use mathlib.Core.List.{List}
 use Prim.Native.Nat.{ℕ, _+_, _≤_}
-use lib.ListN.{length}
 use borrow.Author.Needs.{needs}
 use Rattle.curve.specs.declared.Curve.{Curve}
 use Rattle.curve.specs.declared.Rect.{Rect}
@@ -15,7 +14,7 @@ use Rattle.curve.proofs.Accepted.{number-accepted}
 use Rattle.card_text.specs.Card.{rowAt, cardLength}
 use Rattle.card_text.specs.Reading.{rectAt, decoded, headerRefusal, rowsRefusal, cardRefusal}
 use Rattle.card_text.proofs.Accepting.{or-zero}
-use Rattle.card_text.proofs.ReadingAnswer.{FirstLine, first-line, card-first, card-later, read-refused, read-accepted}
+use Rattle.card_text.proofs.ReadingAnswer.{first-line, card-first, card-later, read-refused, read-accepted}
 use Rattle.card_text.proofs.ClampedCurve.{refusal-clamped, curve-clamped}
 use Rattle.card_text.proofs.RowsRead.{heldAt}
 use Rattle.card_text.proofs.read_card.Statement.{statement}
