@@ -1,11 +1,11 @@
 -- The affine map of two sides, counted from the lower one: the sums fit, and the quotient is the map's.
 -- Assumes nothing.
-use mathlib.Core.Path.{_≡_, sym, ap, ap₂, _∙_, subst}
+use mathlib.Core.Path.{_≡_, sym, ap, ap₂, _∙_}
 use mathlib.Core.Bool.{Bool, true, false}
 use Prim.Native.Nat.{ℕ, _+_, _*_, _-_, _/_, _≤_, _<_}
 use native.Mathlib.Nat.{mul-le-mul, add-comm, div-lt-iff-lt-mul, add-zero}
 use native.Mathlib.Omega.{arith}
-use lib.IntN.{ℤ, pos, negℤ, _+ℤ_, _-ℤ_, _*ℤ_, +ℤ-comm, +ℤ-negℤ-cancel, pos-+ℤ-pos, pos-*ℤ-pos}
+use lib.IntN.{ℤ, pos, _+ℤ_, _-ℤ_, _*ℤ_, +ℤ-comm, +ℤ-negℤ-cancel, pos-+ℤ-pos, pos-*ℤ-pos}
 use lib.Signed.{_≤ℤ_}
 use Rattle.rational.specs.Rounding.{quotient}
 use Rattle.rational.proofs.Whole.{integer-ring}

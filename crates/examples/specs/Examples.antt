@@ -1,7 +1,7 @@
 -- Document 01's examples that carry a star: what the definitions answer beside what the document says.
 -- Assumes nothing.
 use mathlib.Core.Path.{_≡_}
-use mathlib.Core.List.{List, [], _∷_, _++_, map}
+use mathlib.Core.List.{List, [], _∷_, map}
 use Prim.Native.Nat.{ℕ}
 use lib.IntN.{ℤ, pos, negsuc}
 use Rattle.curve.specs.declared.Curve.{Curve}
@@ -10,7 +10,7 @@ use Rattle.curve.specs.Curve.{curveOf, point}
 use Rattle.curve.specs.Calls.{evaluated, subdivided, elevated, bounded}
 use Rattle.search.specs.Verdict.{outside, spent, undecided}
 use Rattle.search.specs.Search.{searched}
-use Rattle.examples.specs.Shown.{values, valueAt, ends, refusalShown, evaluationShown, resistancesShown, verdictShown}
+use Rattle.examples.specs.Shown.{values, ends, refusalShown, evaluationShown, resistancesShown, verdictShown}
 
 -- an example: the numbers that a definition answers, and those that the document gives
 pub record Example : Type 0 where

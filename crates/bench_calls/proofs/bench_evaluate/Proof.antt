@@ -1,11 +1,11 @@
 -- `bench_evaluate` meets its contract: the lengths are tested as the definition tests them, and the answer's sides are stored.
 -- Assumes nothing.
-use mathlib.Core.Path.{_≡_, refl, ap, _∙_}
+use mathlib.Core.Path.{refl, ap, _∙_}
 use borrow.Author.Needs.{needs}
 use Rattle.curve.specs.declared.Curve.{Curve}
 use Rattle.curve.specs.declared.Evaluation.{Evaluation}
 use Rattle.curve.specs.Calls.{evaluated}
-use Rattle.bench_calls.specs.Slices.{curveFrom, withRect, evaluateNumber, evaluateOut}
+use Rattle.bench_calls.specs.Slices.{withRect, evaluateNumber, evaluateOut}
 use Rattle.bench_calls.proofs.Stored.{few-sides, little-room, both-long}
 use Rattle.bench_calls.proofs.bench_evaluate.Statement.{statement}
 use Rattle.bench_calls.proofs.bench_evaluate.Tie as tie

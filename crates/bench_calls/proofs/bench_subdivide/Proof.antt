@@ -8,7 +8,7 @@ use Rattle.curve.specs.declared.Curve.{Curve}
 use Rattle.curve.specs.declared.Subdivision.{Subdivision}
 use Rattle.curve.specs.Curve.{point}
 use Rattle.curve.specs.Calls.{subdivided}
-use Rattle.bench_calls.specs.Slices.{curveFrom, withPoints, subdivideNumber, subdivideOut}
+use Rattle.bench_calls.specs.Slices.{withPoints, subdivideNumber, subdivideOut}
 use Rattle.bench_calls.proofs.Stored.{few-sides, little-room, both-long}
 use Rattle.bench_calls.proofs.bench_subdivide.Statement.{statement}
 use Rattle.bench_calls.proofs.bench_subdivide.Tie as tie

@@ -1,8 +1,6 @@
 -- `rise_of` meets its contract: the test tells which side is the lower, and the distance fits.
 -- Assumes nothing.
-use mathlib.Core.Path.{_≡_}
 use native.Mathlib.Omega.{arith}
-use lib.Signed.{_≤ℤ_}
 use Rattle.rational.proofs.Order.{test-yes, test-no, <ℤ-≤ℤ}
 use Rattle.curve.proofs.Sides.{side-back}
 use Rattle.curve.proofs.Rises.{Distance, distance, difference-fits, difference-is, rising-up, rising-down}

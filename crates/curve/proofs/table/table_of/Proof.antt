@@ -1,11 +1,11 @@
 -- `table_of` meets its contract. The invariant: `right` holds the table as far as stage j, with the first k maps of the next stage made, and `left` the first j + 1 points of the left piece.
 -- Assumes nothing.
-use mathlib.Core.Path.{_≡_, refl, sym, ap, ap₂, _∙_, subst}
+use mathlib.Core.Path.{_≡_, sym, ap, ap₂, _∙_, subst}
 use mathlib.Core.List.{List}
 use Prim.Native.Nat.{ℕ, _+_, _*_, _-_, _≤_, _<_}
 use native.Mathlib.Omega.{arith}
 use borrow.Author.Needs.{needs}
-use lib.ListN.{getD, set, length}
+use lib.ListN.{getD, set}
 use Rattle.bernstein.specs.DeCasteljau as DeCasteljau
 use Rattle.curve.specs.declared.Rect.{Rect}
 use Rattle.curve.specs.Rect.{affineRect, zeroRect}
