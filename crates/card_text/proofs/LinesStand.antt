@@ -10,9 +10,9 @@ use Rattle.curve.specs.declared.Rect.{Rect}
 use Rattle.curve.specs.Limits.{maxDegree}
 use Rattle.curve.specs.Curve.{point}
 use Rattle.curve.proofs.Points.{point-at}
+use Rattle.curve.proofs.Accepted.{or-split}
 use Rattle.card_text.specs.Card.{newline, header, ends, row, rows, cardOf, rowLength, rowAt, headerLength}
 use Rattle.card_text.specs.Reading.{numberAt, degreeOf, intervalAt, rectAt, decoded, columnRefusal, lineEndRefusal, endsRefusal, rowRefusal, rowsRefusal}
-use Rattle.card_text.proofs.Accepting.{or-zero}
 use Rattle.card_text.proofs.Degree.{degree-back}
 use Rattle.card_text.proofs.Entry.{entry-stands, end-stands}
 use Rattle.card_text.proofs.ReadingAnswer.{FirstLine}
@@ -28,14 +28,14 @@ module _ (bytes : List ℕ) where
   pub ends-stand : (at : ℕ) → endsRefusal bytes at .number ≡ 0 → Stands bytes at 20 (ends (intervalAt bytes at))
   unfolding endsRefusal intervalAt ends
   ends-stand at h =
-      let (low, high) = or-zero (columnRefusal bytes at) (columnRefusal bytes (at + 10)) h in
+      let (low, high) = or-split (columnRefusal bytes at) (columnRefusal bytes (at + 10)) h in
       stands-both (entry-stands bytes at low) (entry-stands bytes (at + 10) high)
 
   pub row-stands : (at : ℕ) → rowRefusal bytes at .number ≡ 0 → Stands bytes at rowLength (row (rectAt bytes at))
   unfolding rowRefusal rectAt row
   row-stands at h =
-      let (first, h₁) = or-zero (endsRefusal bytes at) _ h in
-      let (second, end) = or-zero (endsRefusal bytes (at + 20)) (lineEndRefusal bytes (at + 40)) h₁ in
+      let (first, h₁) = or-split (endsRefusal bytes at) _ h in
+      let (second, end) = or-split (endsRefusal bytes (at + 20)) (lineEndRefusal bytes (at + 40)) h₁ in
       stands-both (stands-both (ends-stand at first) (ends-stand (at + 20) second)) (end-stands bytes (at + 40) end)
 
   -- the rectangles of the lines
@@ -46,7 +46,7 @@ module _ (bytes : List ℕ) where
   unfolding rowsRefusal rows
   rows-stand zero h = stands-none bytes headerLength
   rows-stand (suc m) h =
-      let (before, last) = or-zero (rowsRefusal bytes m) (rowRefusal bytes (rowAt m)) h in
+      let (before, last) = or-split (rowsRefusal bytes m) (rowRefusal bytes (rowAt m)) h in
       let size : rowLength * m + rowLength ≡ rowLength * suc m = omega arith in
       stands-sized size (stands-both (rows-stand m before) (row-stands (rowAt m) last))
 

@@ -13,7 +13,7 @@ use Rattle.curve.specs.declared.Refusal.{Refusal}
 use Rattle.curve.specs.Rect.{zeroRect}
 use Rattle.curve.specs.Curve.{point, zeroCurve, SameCurve}
 use Rattle.curve.specs.Refusals.{none, _orElse_, curveRefusal, Accepted}
-use Rattle.curve.proofs.Accepted.{accepted-facts, number-accepted}
+use Rattle.curve.proofs.Accepted.{accepted-facts, number-accepted, or-split}
 use Rattle.curve.proofs.Points.{point-past}
 use Rattle.card_text.specs.declared.CardRead.{CardRead}
 use Rattle.card_text.specs.declared.CardWritten.{CardWritten}
@@ -21,7 +21,6 @@ use Rattle.card_text.specs.Card.{header, rows, cardOf, cardLength, rowAt
 use Rattle.card_text.specs.Reading.{numberAt, degreeOf, rectAt, decoded, unlessAt, headerRefusal, rowsRefusal, cardRefusal, readCard}
 use Rattle.card_text.specs.Writing.{writingRefusal, writeCard, bytesAfter}
 use Rattle.card_text.specs.Promises.{CardLength, WrittenReads, ReadIsWritten, PastUnwritten, ReadZeroPast}
-use Rattle.card_text.proofs.Accepting.{or-zero}
 use Rattle.card_text.proofs.CardReads.{card-reads, same-refusal, same-trimmed}
 use Rattle.card_text.proofs.Fitting.{card-long}
 use Rattle.card_text.proofs.LinesStand.{rows-agree, card-stands}
@@ -77,11 +76,11 @@ module _ (bytes : List ℕ) where
 
     zero-first : headerRefusal bytes .number ≡ 0
     unfolding cardRefusal
-    zero-first = or-zero (headerRefusal bytes) _ zero-all .0
+    zero-first = or-split (headerRefusal bytes) _ zero-all .0
 
     zero-later : (rowsRefusal bytes (decoded bytes .degree + 1) .number ≡ 0) × (curveRefusal (decoded bytes) .number ≡ 0)
     zero-later =
-        or-zero (rowsRefusal bytes (decoded bytes .degree + 1)) (curveRefusal (decoded bytes))
+        or-split (rowsRefusal bytes (decoded bytes .degree + 1)) (curveRefusal (decoded bytes))
         (subst (λ (r : Refusal). r .number ≡ 0) (card-later bytes zero-first) zero-all)
 
     read-curve : readCard bytes .curve ≡ decoded bytes

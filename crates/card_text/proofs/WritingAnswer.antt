@@ -12,13 +12,13 @@ use Rattle.curve.specs.declared.Curve.{Curve}
 use Rattle.curve.specs.declared.Refusal.{Refusal}
 use Rattle.curve.specs.Curve.{point}
 use Rattle.curve.specs.Refusals.{none, curveRefusal, Accepted}
-use Rattle.curve.proofs.Accepted.{number-accepted, accepted-facts}
+use Rattle.curve.proofs.Accepted.{number-accepted, accepted-facts, or-split}
 use Rattle.card_text.specs.declared.CardWritten.{CardWritten}
 use Rattle.card_text.specs.Card.{header, rows, cardOf, headerLength, cardLength}
 use Rattle.card_text.specs.Reading.{unlessAt}
 use Rattle.card_text.specs.Writing.{writingRefusal, writeCard, bytesAfter}
 use Rattle.card_text.specs.Inner.{placed}
-use Rattle.card_text.proofs.Accepting.{or-zero, or-none, unless-zero, unless-none}
+use Rattle.card_text.proofs.Accepting.{or-none, unless-zero, unless-none}
 use Rattle.card_text.proofs.Fitting.{header-long, card-long}
 use Rattle.card_text.proofs.Placed.{placed-front, placed-then}
 
@@ -37,7 +37,7 @@ module _ (c : Curve) (size : ℕ) where
   pub writing-zero : writingRefusal c size .number ≡ 0 → Accepted c × (cardLength (c .degree) ≤ size)
   unfolding writingRefusal
   writing-zero h =
-      let (first, second) = or-zero (curveRefusal c) lack h in
+      let (first, second) = or-split (curveRefusal c) lack h in
       (number-accepted c first, leb-true (cardLength (c .degree)) size (unless-zero (leb (cardLength (c .degree)) size) 11 (cardLength (c .degree)) second))
 
 -- ---- the answer, by the test of the refusal's number

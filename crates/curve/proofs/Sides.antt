@@ -7,7 +7,7 @@ use lib.Dec.{T, leb→le, le→leb, lt→ltb}
 use lib.Ieee.{binary32, inFloat}
 use lib.IntN.{ℤ, pos, negsuc}
 use lib.Signed.{mag}
-use mir.Syntax.{w32}
+use mir.Syntax.{w32, w64}
 use mir.Val.{SFits, toZ, ofZ}
 use Rattle.rational.proofs.Order.{pos-reflects}
 use Rattle.curve.specs.Inner.{Side}
@@ -20,6 +20,10 @@ side-mag (negsuc n) h = let g = leb→le n 16777215 (h .from .le) in omega arith
 
 pub side-fits : {z : ℤ} → Side z → SFits w32 z
 side-fits {z} h = let g = side-mag z h in record { sfits = omega arith }
+
+-- what fits an i32 fits an i64
+pub wide : {z : ℤ} → SFits w32 z → SFits w64 z
+wide f = let g = f .sfits in record { sfits = omega arith }
 
 -- a side is a single-precision float exactly
 pub side-in-float : (z : ℤ) → Side z → T (inFloat binary32 z)
