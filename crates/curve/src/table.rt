@@ -26,20 +26,26 @@ pub fn zero_rect() -> Rect
     }
 }
 
-// The control points of the curve, and zero in the places past its degree.
-fn trimmed(c: Curve) -> [Rect; PLACES]
+// The table before its first stage: the control points with zero in the places past the degree, and the left piece's first point.
+fn first_table(c: Curve) -> Table
     requires { ⌜ c .degree ≤ maxDegree ⌝ }
-    ensures { λ r. ⌜ r ≡ pointsOf (c .degree) (point c) ⌝ }
+    ensures { λ r. ⌜ (r .left ≡ pointsOf 0 (point c)) × (r .right ≡ pointsOf (c .degree) (point c)) ⌝ }
 {
     let n = c.degree as usize;
-    let mut points = [zero_rect(); PLACES];
-    points[0] = c.points[0];
+    let none = [zero_rect(); PLACES];
+    let first = c.points[0];
+    let mut table = Table {
+        left: none,
+        right: none,
+    };
+    table.left[0] = first;
+    table.right[0] = first;
     let mut k = 0;
     while k < n {
         k += 1;
-        points[k] = c.points[k];
+        table.right[k] = c.points[k];
     }
-    points
+    table
 }
 
 // The stages are made in place, one map a turn: in stage j + 1 the first k entries are done. A stage that is done hands its first entry to the left piece.
@@ -52,21 +58,19 @@ pub fn table_of(c: Curve, num: u32, den: u32) -> Table
     let s = (den - num) as u64;
     let t = num as u64;
     let d = den as u64;
-    let mut right = trimmed(c);
-    let mut left = [zero_rect(); PLACES];
-    left[0] = right[0];
+    let mut table = first_table(c);
     let mut j = 0;
     let mut k = 0;
     while j < n {
-        let p = right[k];
-        let q = right[k + 1];
-        right[k] = affine_rect(p, q, s, t, d);
+        let p = table.right[k];
+        let q = table.right[k + 1];
+        table.right[k] = affine_rect(p, q, s, t, d);
         k += 1;
         if j + k == n {
             j += 1;
             k = 0;
-            left[j] = right[0];
+            table.left[j] = table.right[0];
         }
     }
-    Table { left, right }
+    table
 }
