@@ -1,44 +1,33 @@
 -- The panel call's refusal and buffer, case by case, in the order of the code's tests.
 -- Assumes nothing.
-use mathlib.Core.Path.{_≡_, refl, sym, ap, _∙_, subst}
+use mathlib.Core.Path.{_≡_, sym, ap, _∙_}
 use mathlib.Core.Bool.{Bool, cond}
 use mathlib.Core.List.{List, _++_}
-use Prim.Native.Nat.{ℕ, _+_, _≤_, _<_}
+use Prim.Native.Nat.{ℕ, _≤_, _<_}
 use lib.Dec.{leb, eqb}
 use lib.ListN.{length, drop}
 use borrow.Author.Tests.{le-leb, lt-leb, eq-eqb, ne-eqb, leb-true}
 use Rattle.curve.specs.declared.Refusal.{Refusal}
-use Rattle.curve.specs.Curve.{zeroCurve}
-use Rattle.curve.specs.Refusals.{refusal, none, _orElse_, curveRefusal, parameterRefusal, Accepted, AcceptedAt}
+use Rattle.curve.specs.Refusals.{refusal, none, _orElse_, parameterRefusal, Accepted, AcceptedAt}
 use Rattle.curve.specs.Calls.{evaluated}
-use Rattle.curve.proofs.Refused.{or-first, or-second}
-use Rattle.curve.proofs.Accepted.{number-accepted, number-accepted-at, call-parameter}
-use Rattle.curve.proofs.Answers.{in-both, evaluated-refusal}
-use Rattle.card_text.specs.declared.CardRead.{CardRead}
-use Rattle.card_text.specs.Reading.{unlessAt, decoded, headerRefusal, rowsRefusal, cardRefusal, readCard}
+use Rattle.curve.proofs.Refused.{or-first, or-second, number-passed}
+use Rattle.curve.proofs.Accepted.{number-accepted-at, call-parameter}
+use Rattle.curve.proofs.Answers.{evaluated-refusal}
+use Rattle.card_text.specs.Reading.{unlessAt, cardRefusal, readCard}
 use Rattle.card_text.proofs.Accepting.{or-zero, unless-zero}
-use Rattle.card_text.proofs.ReadingAnswer.{card-later, read-accepted}
+use Rattle.card_text.proofs.Promises.{read-refusal, read-is-written}
 use Rattle.panel.specs.Panel.{loadBytes, loadLength, panelRefusal, panelLoad, panelBytes}
-
--- ---- the card
-
-pub read-refusal : (card : List ℕ) → readCard card .refusal ≡ cardRefusal card
-unfolding readCard
-read-refusal card = in-both {A = CardRead} (λ r. record { refusal = r; curve = decoded card }) (λ r. record { refusal = r; curve = zeroCurve }) (cardRefusal card) (λ x. x .refusal) _ refl refl
 
 -- the curve of a card that is not refused is accepted
 pub card-accepted : (card : List ℕ) → cardRefusal card .number ≡ 0 → Accepted (readCard card .curve)
-unfolding cardRefusal
-card-accepted card h =
-    let c = decoded card in
-    let (first, _) = or-zero (headerRefusal card) _ h in
-    let later = or-zero (rowsRefusal card (c .degree + 1)) (curveRefusal c) (subst (λ (r : Refusal). r .number ≡ 0) (card-later card first) h) in
-    subst (λ (x : CardRead). Accepted (x .curve)) (read-accepted card refl h) (number-accepted c (later .1))
+card-accepted card h = read-is-written card (number-passed (sym (read-refusal card)) h) .accepted
 
 module _ (card : List ℕ) (num den : ℕ) where
-  -- evaluation then refuses the parameter alone
+  -- so evaluation refuses the parameter alone
   pub refusal-read : cardRefusal card .number ≡ 0 → evaluated (readCard card .curve) num den .refusal ≡ parameterRefusal num den
-  refusal-read h = evaluated-refusal (readCard card .curve) num den ∙ call-parameter (readCard card .curve) num den (card-accepted card h)
+  refusal-read h =
+      let c = readCard card .curve in
+      evaluated-refusal c num den ∙ call-parameter c num den (card-accepted card h)
 
   module _ (size : ℕ) where
     -- 12, or none
@@ -69,6 +58,14 @@ module _ (card : List ℕ) (num den : ℕ) where
 
         pub refused-none : loadLength ≤ size → none ≡ panelRefusal card num den size
         refused-none h = ap (λ (b : Bool). unlessAt b 12 loadLength) (sym (le-leb loadLength size h)) ∙ past-parameter
+
+    -- number 0 says that none of them applies
+    pub none-refused : panelRefusal card num den size .number ≡ 0 → (cardRefusal card .number ≡ 0) × AcceptedAt num den × (loadLength ≤ size)
+    unfolding panelRefusal
+    none-refused h =
+        let (first, rest) = or-zero (cardRefusal card) later h in
+        let (second, third) = or-zero (parameterRefusal num den) lack rest in
+        (first, number-accepted-at num den second, leb-true loadLength size (unless-zero (leb loadLength size) 11 loadLength third))
 
   -- ---- the buffer
 

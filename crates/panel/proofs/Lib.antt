@@ -2,3 +2,4 @@
 pub mod Bits
 pub mod Lengths
 pub mod Call
+pub mod Promises

@@ -15,8 +15,9 @@ use Rattle.card_text.specs.declared.CardRead.{CardRead}
 use Rattle.card_text.specs.Reading.{cardRefusal, readCard}
 use Rattle.card_text.specs.Inner.{placed}
 use Rattle.card_text.proofs.Placed.{placed-front}
+use Rattle.card_text.proofs.Promises.{read-refusal}
 use Rattle.panel.specs.Panel.{loadBytes, panelLoad}
-use Rattle.panel.proofs.Call.{read-refusal, refusal-read, refused-card, refused-parameter, refused-short, refused-none, refused, written}
+use Rattle.panel.proofs.Call.{refusal-read, refused-card, refused-parameter, refused-short, refused-none, refused, written}
 use Rattle.panel.proofs.Lengths.{load-long}
 use Rattle.panel.proofs.jusqani_panel.Statement.{statement}
 use Rattle.panel.proofs.jusqani_panel.Tie as tie
