@@ -3,3 +3,4 @@ pub mod Numbers
 pub mod Places
 pub mod BoundsHeld
 pub mod Answer
+pub mod Promises
