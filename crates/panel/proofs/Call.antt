@@ -11,10 +11,10 @@ use Rattle.curve.specs.declared.Refusal.{Refusal}
 use Rattle.curve.specs.Refusals.{refusal, none, _orElse_, parameterRefusal, Accepted, AcceptedAt}
 use Rattle.curve.specs.Calls.{evaluated}
 use Rattle.curve.proofs.Refused.{or-first, or-second, number-passed}
-use Rattle.curve.proofs.Accepted.{number-accepted-at, call-parameter}
+use Rattle.curve.proofs.Accepted.{number-accepted-at, call-parameter, or-split}
 use Rattle.curve.proofs.Answers.{evaluated-refusal}
 use Rattle.card_text.specs.Reading.{unlessAt, cardRefusal, readCard}
-use Rattle.card_text.proofs.Accepting.{or-zero, unless-zero}
+use Rattle.card_text.proofs.Accepting.{unless-zero}
 use Rattle.card_text.proofs.Promises.{read-refusal, read-is-written}
 use Rattle.panel.specs.Panel.{loadBytes, loadLength, panelRefusal, panelLoad, panelBytes}
 
@@ -63,8 +63,8 @@ module _ (card : List ℕ) (num den : ℕ) where
     pub none-refused : panelRefusal card num den size .number ≡ 0 → (cardRefusal card .number ≡ 0) × AcceptedAt num den × (loadLength ≤ size)
     unfolding panelRefusal
     none-refused h =
-        let (first, rest) = or-zero (cardRefusal card) later h in
-        let (second, third) = or-zero (parameterRefusal num den) lack rest in
+        let (first, rest) = or-split (cardRefusal card) later h in
+        let (second, third) = or-split (parameterRefusal num den) lack rest in
         (first, number-accepted-at num den second, leb-true loadLength size (unless-zero (leb loadLength size) 11 loadLength third))
 
   -- ---- the buffer
