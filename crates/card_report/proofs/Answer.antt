@@ -1,11 +1,10 @@
 -- What is shown by whether the card is refused, how long it is, and how it gets into the buffer.
 -- Assumes nothing.
 use mathlib.Core.Path.{_≡_, refl, sym, ap, _∙_, subst}
-use mathlib.Core.Bool.{Bool, true, false, cond}
+use mathlib.Core.Bool.{Bool, cond}
 use mathlib.Core.List.{List, [], _∷_, _++_}
 use Prim.Native.Nat.{ℕ, _+_, _≤_, _<_}
 use native.Mathlib.Omega.{arith}
-use lib.Dec.{leb, eqb}
 use lib.IntN.{pos}
 use lib.ListN.{length, take, drop, length-append, length-take}
 use borrow.Author.Tests.{le-leb, lt-leb, eq-eqb, ne-eqb}
@@ -21,7 +20,7 @@ use Rattle.curve.proofs.Pieces.{load-held}
 use Rattle.card_text.specs.declared.CardRead.{CardRead}
 use Rattle.card_text.specs.Card.{newline, row}
 use Rattle.card_text.specs.Inner.{placed}
-use Rattle.card_text.specs.Reading.{cardRefusal, readCard}
+use Rattle.card_text.specs.Reading.{readCard}
 use Rattle.card_text.proofs.Fitting.{row-long}
 use Rattle.card_text.proofs.Placed.{placed-front}
 use Rattle.card_text.proofs.Promises.{read-refusal}

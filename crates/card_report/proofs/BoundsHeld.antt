@@ -2,9 +2,7 @@
 -- Assumes nothing.
 use mathlib.Core.Path.{sym, ap, subst}
 use Prim.Native.Nat.{ℕ, zero, suc, _≤_}
-use native.Mathlib.Nat.{le-refl}
 use native.Mathlib.Omega.{arith}
-use lib.IntN.{ℤ}
 use Rattle.rational.specs.Rounding.{Rounding, down, up}
 use Rattle.rational.proofs.Order.{chosen}
 use Rattle.curve.specs.declared.Curve.{Curve}

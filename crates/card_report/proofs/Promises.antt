@@ -1,6 +1,6 @@
 -- The promises of specs/Promises.antt, proved.
 -- Assumes nothing.
-use mathlib.Core.Path.{_≡_, refl, sym, ap, _∙_, subst, subst₂}
+use mathlib.Core.Path.{_≡_, refl, sym, ap, _∙_, subst₂}
 use mathlib.Core.Bool.{Bool, true, false}
 use mathlib.Core.List.{List, _++_}
 use Prim.Native.Nat.{ℕ, _+_, _-_, _≤_}
@@ -9,7 +9,6 @@ use lib.Dec.{eqb, leb}
 use lib.ListN.{length, getD, take, drop, length-append, length-drop}
 use lib.Seq.{take-append-seam, getD-append-add, getD-drop}
 use borrow.Author.Tests.{leb-true, leb-false, eqb-true, eqb-false}
-use Rattle.card_text.specs.Inner.{placed}
 use Rattle.card_text.specs.Reading.{readCard}
 use Rattle.card_text.proofs.Placed.{placed-front}
 use Rattle.card_text.proofs.Promises.{read-is-written}

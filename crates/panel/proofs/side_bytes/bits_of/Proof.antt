@@ -1,6 +1,6 @@
 -- `bits_of` meets its contract: nothing is lost on the way from an i32 to a u64.
 -- Assumes nothing.
-use mathlib.Core.Path.{_≡_, ap, _∙_}
+use mathlib.Core.Path.{_≡_, _∙_}
 use native.Mathlib.Omega.{arith}
 use lib.IntN.{pos, _+ℤ_}
 use mir.Syntax.{w32, w64}
