@@ -1,6 +1,7 @@
 -- Laws of the definitions in specs/, and the promises.
 pub mod Machine
 pub mod Sides
+pub mod Reciprocal
 pub mod Rises
 pub mod Refused
 pub mod Places

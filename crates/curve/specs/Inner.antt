@@ -2,7 +2,7 @@
 -- Assumes nothing.
 use mathlib.Core.Path.{_≡_}
 use mathlib.Core.Bool.{Bool, true, false, cond}
-use Prim.Native.Nat.{ℕ, _+_, _*_, _≤_, _<_}
+use Prim.Native.Nat.{ℕ, _+_, _*_, _/_, _≤_, _<_}
 use lib.IntN.{ℤ, pos, negℤ, _+ℤ_, _*ℤ_}
 use lib.Signed.{_≤ℤ_}
 use Rattle.rational.specs.Rounding.{Rounding, down, up}
@@ -40,6 +40,20 @@ pub record Rising (a b : ℤ) (s t : ℕ) (from : ℤ) (by factor : ℕ) : Type 
   pub near : by ≤ 33554432
   pub light : factor ≤ s + t
   pub start : Side from
+
+-- the scale of a divisor's inverse, 2 to the power 38
+abbrev pub scale : ℕ
+scale = 274877906944
+
+-- a divisor's inverse, in parts of the scale
+abbrev pub inverseOf : ℕ → ℕ
+inverseOf den = scale / den
+
+-- what a division by an inverse asks: a divisor in range, a quotient of at most twice the largest side
+pub record Dividing (n den : ℕ) : Type 0 where
+  pub positive : 0 < den
+  pub small : den ≤ maxDen
+  pub near : n < 33554433 * den
 
 abbrev pub roundingOf : Bool → Rounding
 roundingOf true = up

@@ -1,11 +1,15 @@
 // The affine map of two sides, intervals and rectangles, rounded outward.
 // A map is counted from the lower of its two sides, so that the quotient is one division of natural numbers, small where the sides are close.
 ghost use mathlib.Core.Path.{_≡_};
+ghost use Prim.Native.Nat.{_/_};
 ghost use Rattle.bernstein.specs.Affine.{affine};
 ghost use Rattle.curve.specs.Rect.{affineInterval, affineRect};
-ghost use Rattle.curve.specs.Inner.{Side, Sides, Held, Factors, Rising, roundingOf};
+ghost use Rattle.curve.specs.Inner.{Side, Sides, Held, Factors, Rising, Dividing, inverseOf, roundingOf};
 use crate::Interval;
 use crate::Rect;
+
+// The scale of a divisor's inverse, 2 to the power 38. An inverse is SCALE / den, rounded down.
+pub const SCALE: u64 = 274877906944;
 
 // The two sides as the lower one, the distance to the other and the other's factor.
 struct Rise {
@@ -35,39 +39,59 @@ fn rise_of(a: i32, b: i32, s: u64, t: u64) -> Rise
     }
 }
 
+// n / den by multiplication: two estimates from below, each of what the last one left, and one correction.
+fn divided(n: u64, den: u64, inverse: u64) -> u64
+    requires { ⌜ Dividing n den ⌝ }
+    requires { ⌜ inverse ≡ inverseOf den ⌝ }
+    ensures { λ r. ⌜ r ≡ n / den ⌝ }
+{
+    let near = n * inverse / SCALE;
+    let rest = n - near * den;
+    let more = rest * inverse / SCALE;
+    let last = rest - more * den;
+    if last < den {
+        near + more
+    } else {
+        near + more + 1
+    }
+}
+
 // (s × a + t × b) / den, rounded up or down.
-fn affine_side(a: i32, b: i32, s: u64, t: u64, den: u64, up: bool) -> i32
+fn affine_side(a: i32, b: i32, s: u64, t: u64, den: u64, inverse: u64, up: bool) -> i32
     requires { ⌜ Side a ⌝ }
     requires { ⌜ Side b ⌝ }
     requires { ⌜ Factors s t den ⌝ }
+    requires { ⌜ inverse ≡ inverseOf den ⌝ }
     ensures { λ r. ⌜ r ≡ affine (roundingOf up) s t den a b ⌝ }
 {
     let rise = rise_of(a, b, s, t);
     let lift = if up { den - 1 } else { 0 };
-    let steps = (rise.factor * rise.by + lift) / den;
+    let steps = divided(rise.factor * rise.by + lift, den, inverse);
     rise.from + steps as i32
 }
 
-fn affine_interval(i: Interval, j: Interval, s: u64, t: u64, den: u64) -> Interval
+fn affine_interval(i: Interval, j: Interval, s: u64, t: u64, den: u64, inverse: u64) -> Interval
     requires { ⌜ Sides i ⌝ }
     requires { ⌜ Sides j ⌝ }
     requires { ⌜ Factors s t den ⌝ }
+    requires { ⌜ inverse ≡ inverseOf den ⌝ }
     ensures { λ r. ⌜ r ≡ affineInterval s t den i j ⌝ }
 {
     Interval {
-        low: affine_side(i.low, j.low, s, t, den, false),
-        high: affine_side(i.high, j.high, s, t, den, true),
+        low: affine_side(i.low, j.low, s, t, den, inverse, false),
+        high: affine_side(i.high, j.high, s, t, den, inverse, true),
     }
 }
 
-pub fn affine_rect(p: Rect, q: Rect, s: u64, t: u64, den: u64) -> Rect
+pub fn affine_rect(p: Rect, q: Rect, s: u64, t: u64, den: u64, inverse: u64) -> Rect
     requires { ⌜ Held p ⌝ }
     requires { ⌜ Held q ⌝ }
     requires { ⌜ Factors s t den ⌝ }
+    requires { ⌜ inverse ≡ inverseOf den ⌝ }
     ensures { λ r. ⌜ r ≡ affineRect s t den p q ⌝ }
 {
     Rect {
-        resistance: affine_interval(p.resistance, q.resistance, s, t, den),
-        reactance: affine_interval(p.reactance, q.reactance, s, t, den),
+        resistance: affine_interval(p.resistance, q.resistance, s, t, den, inverse),
+        reactance: affine_interval(p.reactance, q.reactance, s, t, den, inverse),
     }
 }

@@ -9,6 +9,7 @@ use crate::Curve;
 use crate::Interval;
 use crate::PLACES;
 use crate::Rect;
+use crate::affine::SCALE;
 use crate::affine::affine_rect;
 
 // The control points of both pieces.
@@ -58,13 +59,14 @@ pub fn table_of(c: Curve, num: u32, den: u32) -> Table
     let s = (den - num) as u64;
     let t = num as u64;
     let d = den as u64;
+    let inverse = SCALE / d;
     let mut table = first_table(c);
     let mut j = 0;
     let mut k = 0;
     while j < n {
         let p = table.right[k];
         let q = table.right[k + 1];
-        table.right[k] = affine_rect(p, q, s, t, d);
+        table.right[k] = affine_rect(p, q, s, t, d, inverse);
         k += 1;
         if j + k == n {
             j += 1;

@@ -10,7 +10,7 @@ use lib.IntN.{ℤ, pos, _+ℤ_}
 use mir.Syntax.{w32}
 use mir.Val.{SFits}
 use Rattle.bernstein.specs.Affine.{affine}
-use Rattle.curve.specs.Inner.{Rising, roundingOf}
+use Rattle.curve.specs.Inner.{Rising, Dividing, roundingOf}
 use Rattle.curve.proofs.Machine.{back}
 use Rattle.curve.proofs.Sides.{side-back, side-fits}
 use Rattle.curve.proofs.Stages.{affine-side-held}
@@ -26,7 +26,7 @@ lifted c =
 
 small : (c : tie.Joined1) → c .if1 .lift < c .before .before .args .den
 small c =
-    let p = c .before .before .pre .1 .1 .positive in
+    let p = c .before .before .pre .1 .1 .0 .positive in
     ⊎-elim (λ w. let e = w .1 in omega arith) (λ w. let e = w .1 in omega arith) (c .if1 .came)
 
 -- what was found of the two sides passed
@@ -38,16 +38,15 @@ rising c =
     let r = c .rise-of .result in
     subst₂ (λ (x y : ℤ). Rising x y (a .s) (a .t) (r .from) (r .by) (r .factor)) (side-back (p .0)) (side-back (p .1 .0)) (c .rise-of .ensures)
 
--- the product with the lift is small, and so is the quotient
-sum-bound : (c : tie.Joined1) → c .before .rise-of .result .factor * c .before .rise-of .result .by + c .if1 .lift < 33554433 * 65536
-sum-bound c =
-    let f = c .before .before .pre .1 .1 in
-    let bound = sum-small (c .before .before .args .den) f (rising (c .before)) (c .if1 .lift) (small c) in
-    let few = f .small in
-    omega arith
-
-steps-bound : (c : tie.Joined1) → (c .before .rise-of .result .factor * c .before .rise-of .result .by + c .if1 .lift) / c .before .before .args .den ≤ 33554432
-steps-bound c = steps-small (c .before .before .args .den) (c .before .before .pre .1 .1) (rising (c .before)) (c .if1 .lift) (small c)
+-- the product with the lift is small against the divisor
+dividing : (c : tie.Joined1) → Dividing (c .before .rise-of .result .factor * c .before .rise-of .result .by + c .if1 .lift) (c .before .before .args .den)
+dividing c =
+    let f = c .before .before .pre .1 .1 .0 in
+    record {
+      positive = f .positive;
+      small = f .small;
+      near = sum-small (c .before .before .args .den) f (rising (c .before)) (c .if1 .lift) (small c);
+    }
 
 rise-of-requires : tie.Need-rise-of-requires
 rise-of-requires c κs = search needs
@@ -55,46 +54,56 @@ rise-of-requires c κs = search needs
 sub-lift : tie.Need-sub-lift
 sub-lift c = search needs
 
-mul-steps : tie.Need-mul-steps
-mul-steps c = let bound = sum-bound (c .before) in record { fits = omega arith }
+mul-divided : tie.Need-mul-divided
+mul-divided c = let d = dividing (c .before) in record { fits = omega arith }
 
-add-steps : tie.Need-add-steps
-add-steps c = let bound = sum-bound (c .before .before) in record { fits = omega arith }
+add-divided : tie.Need-add-divided
+add-divided c = let d = dividing (c .before .before) in record { fits = omega arith }
 
-div-steps : tie.Need-div-steps
-div-steps c = search needs
+divided-requires : tie.Need-divided-requires
+divided-requires c κs = (dividing (c .before .before), c .before .before .before .before .pre .1 .1 .1)
 
-steps-fit : (c : tie.Joined1) → SFits w32 (pos ((c .before .rise-of .result .factor * c .before .rise-of .result .by + c .if1 .lift) / c .before .before .args .den))
-steps-fit c = let bound = steps-bound c in record { sfits = omega arith }
+-- so is the quotient
+steps-fit : (c : tie.After-divided) → SFits w32 (pos (c .divided .result))
+steps-fit c =
+    let j = c .before .before .before in
+    let bound = steps-small (j .before .before .args .den) (j .before .before .pre .1 .1 .0) (rising (j .before)) (j .if1 .lift) (small j) in
+    let e = c .divided .ensures in
+    record { sfits = omega arith }
 
 cast-result : tie.Need-cast-result
-cast-result c = steps-fit (c .before .before)
+cast-result c = steps-fit c
 
 -- the sum is the map, which is a side
-reached : (c : tie.Joined1) →
-    c .before .rise-of .result .from +ℤ pos ((c .before .rise-of .result .factor * c .before .rise-of .result .by + c .if1 .lift) / c .before .before .args .den)
-    ≡ affine (roundingOf (c .before .before .args .up)) (c .before .before .args .s) (c .before .before .args .t) (c .before .before .args .den) (c .before .before .args .a) (c .before .before .args .b)
+reached : (c : tie.After-divided) →
+    let j = c .before .before .before in
+    let a = j .before .before .args in
+    j .before .rise-of .result .from +ℤ pos (c .divided .result) ≡ affine (roundingOf (a .up)) (a .s) (a .t) (a .den) (a .a) (a .b)
 reached c =
-    let r = c .before .rise-of in
-    let a = c .before .before .args in
-    ap (λ (l : ℕ). r .result .from +ℤ pos ((r .result .factor * r .result .by + l) / a .den)) (lifted c)
-    ∙ risen (a .den) (c .before .before .pre .1 .1) (rising (c .before)) (a .up)
+    let j = c .before .before .before in
+    let r = j .before .rise-of .result in
+    let a = j .before .before .args in
+    ap (λ (q : ℕ). r .from +ℤ pos q) (c .divided .ensures)
+    ∙ ap (λ (l : ℕ). r .from +ℤ pos ((r .factor * r .by + l) / a .den)) (lifted j)
+    ∙ risen (a .den) (j .before .before .pre .1 .1 .0) (rising (j .before)) (a .up)
 
 add-result : tie.Need-add-result
 add-result c =
-    let j = c .before .before .before .before in
+    let v = c .before .before in
+    let j = v .before .before .before in
     let a = j .before .before .args in
     let p = j .before .before .pre in
-    rw (side-back (rising (j .before) .start), back (steps-fit j), reached j)
-    (side-fits (affine-side-held (roundingOf (a .up)) (a .s) (a .t) (a .den) (a .a) (a .b) (p .1 .1) (p .0) (p .1 .0)))
+    rw (side-back (rising (j .before) .start), back (steps-fit v), reached v)
+    (side-fits (affine-side-held (roundingOf (a .up)) (a .s) (a .t) (a .den) (a .a) (a .b) (p .1 .1 .0) (p .0) (p .1 .0)))
 
 returns : tie.Need-returns
 returns c =
-    let j = c .before .before .before .before in
+    let v = c .before .before in
+    let j = v .before .before .before in
     let a = j .before .before .args in
     let p = j .before .before .pre in
-    rw (side-back (rising (j .before) .start), back (steps-fit j), reached j)
-    (side-back (affine-side-held (roundingOf (a .up)) (a .s) (a .t) (a .den) (a .a) (a .b) (p .1 .1) (p .0) (p .1 .0)))
+    rw (side-back (rising (j .before) .start), back (steps-fit v), reached v)
+    (side-back (affine-side-held (roundingOf (a .up)) (a .s) (a .t) (a .den) (a .a) (a .b) (p .1 .1 .0) (p .0) (p .1 .0)))
 
 pub affine-side-spec : {M : Type 1} → statement M
 affine-side-spec =
@@ -102,9 +111,9 @@ affine-side-spec =
     (tie.spec
     rise-of-requires
     sub-lift
-    mul-steps
-    add-steps
-    div-steps
+    mul-divided
+    add-divided
+    divided-requires
     cast-result
     add-result
     returns)

@@ -1,6 +1,6 @@
 -- `table_of` meets its contract. The invariant: the right side holds the table as far as stage j, with the first k maps of the next stage made, and the left side the first j + 1 points of the left piece.
 -- Assumes nothing.
-use mathlib.Core.Path.{_≡_, sym, ap, ap₂, _∙_, subst}
+use mathlib.Core.Path.{_≡_, refl, sym, ap, ap₂, _∙_, subst}
 use mathlib.Core.List.{List}
 use Prim.Native.Nat.{ℕ, _+_, _*_, _-_, _≤_, _<_}
 use native.Mathlib.Omega.{arith}
@@ -34,7 +34,7 @@ abbrev controls : List Rect → ℕ → Rect
 controls l k = getD l k zeroRect
 
 abbrev Inv-loop : tie.InvT-loop
-Inv-loop num den n s t d table₀ j₀ k₀ table j k =
+Inv-loop num den n s t d inverse table₀ j₀ k₀ table j k =
     (n ≤ 8)
     × (j ≤ n)
     × (k ≤ n - j)
@@ -43,7 +43,7 @@ Inv-loop num den n s t d table₀ j₀ k₀ table j k =
     × (table .left ≡ pointsOf j (DeCasteljau.left (affineRect s t d) (controls (table₀ .right))))
 
 abbrev μ-loop : tie.MeasureT-loop
-μ-loop num den n s t d table₀ j₀ k₀ table j k = (n - j) * 10 - k
+μ-loop num den n s t d inverse table₀ j₀ k₀ table j k = (n - j) * 10 - k
 
 -- the first table has the curve's control points
 same : (c : tie.After-first-table Inv-loop μ-loop) (k : ℕ) → k ≤ c .before .before .args .c .degree → controls (c .first-table .result .right) k ≡ point (c .before .before .args .c) k
@@ -74,6 +74,9 @@ sub-s c = let total = c .before .pre .1 .total in omega arith
 
 cast-s : tie.Need-cast-s Inv-loop μ-loop
 cast-s c = let f = c .before .pre .1 in omega arith
+
+div-inverse : tie.Need-div-inverse Inv-loop μ-loop
+div-inverse c = c .before .pre .1 .positive
 
 first-table-requires : tie.Need-first-table-requires Inv-loop μ-loop
 first-table-requires c κs = c .before .pre .0 .few
@@ -132,10 +135,10 @@ affine-rect-requires c κs =
     let i = c .before .before in
     let k = i .before .loop .k in
     let room = inside i in
-    (waiting i k (omega arith) (omega arith), (waiting i (k + 1) (omega arith) (omega arith), i .before .before .before .before .pre .1))
+    (waiting i k (omega arith) (omega arith), (waiting i (k + 1) (omega arith) (omega arith), (i .before .before .before .before .pre .1, refl)))
 
-mul-t16 : tie.Need-mul-t16 Inv-loop μ-loop
-mul-t16 c = let room = inside (c .before .before .before) in omega arith
+mul-t17 : tie.Need-mul-t17 Inv-loop μ-loop
+mul-t17 c = let room = inside (c .before .before .before) in omega arith
 
 element-set-from-table : tie.Need-element-set-from-table Inv-loop μ-loop
 element-set-from-table c = let room = inside (c .before .before .before) in omega arith
@@ -152,8 +155,8 @@ add-j c = let room = inside (c .before .before .before .before) in omega arith
 element-copy-out-table : tie.Need-element-copy-out-table Inv-loop μ-loop
 element-copy-out-table c = search needs
 
-mul-t28 : tie.Need-mul-t28 Inv-loop μ-loop
-mul-t28 c = let room = inside (c .before .before .before .before .before) in omega arith
+mul-t29 : tie.Need-mul-t29 Inv-loop μ-loop
+mul-t29 c = let room = inside (c .before .before .before .before .before) in omega arith
 
 element-set-from-table-2 : tie.Need-element-set-from-table-2 Inv-loop μ-loop
 element-set-from-table-2 c = let room = inside (c .before .before .before .before .before) in omega arith
@@ -244,6 +247,7 @@ table-of-spec =
     cast-n
     sub-s
     cast-s
+    div-inverse
     first-table-requires
     loop-holds
     mul-p
@@ -252,13 +256,13 @@ table-of-spec =
     mul-q
     element-copy-out-q
     affine-rect-requires
-    mul-t16
+    mul-t17
     element-set-from-table
     add-k
     add-if1
     add-j
     element-copy-out-table
-    mul-t28
+    mul-t29
     element-set-from-table-2
     loop-less
     loop-again
