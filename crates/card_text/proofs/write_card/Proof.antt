@@ -5,6 +5,7 @@ use Prim.Native.Nat.{_≤_}
 use native.Mathlib.Omega.{arith}
 use lib.ListN.{length}
 use borrow.Author.Needs.{needs}
+use Rattle.curve.specs.Limits.{maxDegree}
 use Rattle.curve.specs.declared.Refusal.{Refusal}
 use Rattle.curve.specs.Refusals.{Accepted}
 use Rattle.curve.proofs.Accepted.{accepted-facts}
@@ -28,7 +29,7 @@ accepted c =
     let a = c .before .before .before .before .args in
     writing-zero (a .c) (length (a .out .now)) (subst (λ (r : Refusal). r .number ≡ 0) (c .before .before .writing-refusal .ensures) (c .if1 .left))
 
-few : (c : tie.Else1) → c .before .before .before .before .args .c .degree ≤ 8
+few : (c : tie.Else1) → c .before .before .before .before .args .c .degree ≤ maxDegree
 few c = accepted-facts _ (accepted c .0) .few
 
 write-header-requires : tie.Need-write-header-requires

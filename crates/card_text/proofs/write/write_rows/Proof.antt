@@ -5,6 +5,7 @@ use Prim.Native.Nat.{ℕ, _+_, _*_, _-_, _≤_}
 use native.Mathlib.Numerals.{add-one}
 use native.Mathlib.Omega.{arith}
 use lib.ListN.{length}
+use Rattle.curve.specs.Limits.{maxDegree}
 use Rattle.curve.specs.declared.Curve.{Curve}
 use Rattle.curve.specs.Curve.{point}
 use Rattle.curve.specs.Refusals.{Accepted}
@@ -24,7 +25,7 @@ abbrev μ-loop : tie.MeasureT-loop
 μ-loop out₀ c n k₀ out k = n + 1 - k
 
 -- what an accepted curve gives
-few : (c : Curve) → Accepted c → c .degree ≤ 8
+few : (c : Curve) → Accepted c → c .degree ≤ maxDegree
 few c ok = accepted-ready c ok .few
 
 held : (c : Curve) → Accepted c → (k : ℕ) → k ≤ c .degree → Held (point c k)

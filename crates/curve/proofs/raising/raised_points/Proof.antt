@@ -6,6 +6,7 @@ use Prim.Native.Nat.{ℕ, _+_, _-_, _≤_, _<_}
 use native.Mathlib.Omega.{arith}
 use borrow.Author.Needs.{needs}
 use lib.ListN.{set}
+use Rattle.curve.specs.Limits.{maxDegree}
 use Rattle.curve.specs.declared.Rect.{Rect}
 use Rattle.curve.specs.Curve.{point, pointsOf, raisedPoint}
 use Rattle.curve.proofs.Places.{points-first, points-next}
@@ -14,7 +15,7 @@ use Rattle.curve.proofs.raising.raised_points.Statement.{statement}
 use Rattle.curve.proofs.raising.raised_points.Tie as tie
 
 abbrev Inv-loop : tie.InvT-loop
-Inv-loop c n d inverse points₀ k₀ points k = (n < 8) × (k ≤ n) × (points ≡ pointsOf k (raisedPoint n (point c)))
+Inv-loop c n d inverse points₀ k₀ points k = (n < maxDegree) × (k ≤ n) × (points ≡ pointsOf k (raisedPoint n (point c)))
 
 abbrev μ-loop : tie.MeasureT-loop
 μ-loop c n d inverse points₀ k₀ points k = n - k

@@ -6,6 +6,7 @@ use Prim.Native.Nat.{ℕ, _+_, _-_, _≤_}
 use native.Mathlib.Omega.{arith}
 use borrow.Author.Needs.{needs}
 use lib.ListN.{set}
+use Rattle.curve.specs.Limits.{maxDegree}
 use Rattle.curve.specs.declared.Rect.{Rect}
 use Rattle.curve.specs.Curve.{point, pointsOf}
 use Rattle.curve.proofs.Places.{points-first, points-next}
@@ -13,7 +14,7 @@ use Rattle.curve.proofs.table.first_table.Statement.{statement}
 use Rattle.curve.proofs.table.first_table.Tie as tie
 
 abbrev Inv-loop : tie.InvT-loop
-Inv-loop c n table₀ k₀ table k = (n ≤ 8) × (k ≤ n) × (table .left ≡ pointsOf 0 (point c)) × (table .right ≡ pointsOf k (point c))
+Inv-loop c n table₀ k₀ table k = (n ≤ maxDegree) × (k ≤ n) × (table .left ≡ pointsOf 0 (point c)) × (table .right ≡ pointsOf k (point c))
 
 abbrev μ-loop : tie.MeasureT-loop
 μ-loop c n table₀ k₀ table k = n - k

@@ -6,6 +6,7 @@ use Prim.Native.Nat.{ℕ, _+_, _*_, _-_, _≤_, _<_}
 use native.Mathlib.Omega.{arith}
 use borrow.Author.Needs.{needs}
 use lib.ListN.{getD, set}
+use Rattle.curve.specs.Limits.{maxDegree, places}
 use Rattle.bernstein.specs.DeCasteljau as DeCasteljau
 use Rattle.bernstein.proofs.Table.{left-first}
 use Rattle.curve.specs.declared.Rect.{Rect}
@@ -35,7 +36,7 @@ controls l k = getD l k zeroRect
 
 abbrev Inv-loop : tie.InvT-loop
 Inv-loop num den n s t d inverse table₀ j₀ k₀ table j k =
-    (n ≤ 8)
+    (n ≤ maxDegree)
     × (j ≤ n)
     × (k ≤ n - j)
     × (j < n → k < n - j)
@@ -43,7 +44,7 @@ Inv-loop num den n s t d inverse table₀ j₀ k₀ table j k =
     × (table .left ≡ pointsOf j (DeCasteljau.left (affineRect s t d) (controls (table₀ .right))))
 
 abbrev μ-loop : tie.MeasureT-loop
-μ-loop num den n s t d inverse table₀ j₀ k₀ table j k = (n - j) * 10 - k
+μ-loop num den n s t d inverse table₀ j₀ k₀ table j k = (n - j) * (places + 1) - k
 
 -- the first table has the curve's control points
 same : (c : tie.After-first-table Inv-loop μ-loop) (k : ℕ) → k ≤ c .before .before .args .c .degree → controls (c .first-table .result .right) k ≡ point (c .before .before .args .c) k
