@@ -1,5 +1,5 @@
 // The affine map of two sides, intervals and rectangles, rounded outward.
-// A map is counted from the lower of its two sides, so that the quotient is one division of natural numbers, small where the sides are close.
+// A map is counted from the lower of its two sides, so that its quotient is one of natural numbers and at most twice the largest side.
 ghost use mathlib.Core.Path.{_≡_};
 ghost use Prim.Native.Nat.{_/_};
 ghost use Rattle.bernstein.specs.Affine.{affine};
@@ -8,7 +8,7 @@ ghost use Rattle.curve.specs.Inner.{Side, Sides, Held, Factors, Rising, 
 use crate::Interval;
 use crate::Rect;
 
-// The scale of a divisor's inverse, 2 to the power 38. An inverse is SCALE / den, rounded down.
+// The scale of a divisor's inverse, 2 to the power 38. The inverse of den, SCALE / den rounded down, is worked out once for many maps.
 pub const SCALE: u64 = 274877906944;
 
 // The two sides as the lower one, the distance to the other and the other's factor.
@@ -39,7 +39,7 @@ fn rise_of(a: i32, b: i32, s: u64, t: u64) -> Rise
     }
 }
 
-// n / den by multiplication: two estimates from below, each of what the last one left, and one correction.
+// n / den without a division by den, which is slow: two estimates from below, the second of what the first left, and one correction.
 fn divided(n: u64, den: u64, inverse: u64) -> u64
     requires { ⌜ Dividing n den ⌝ }
     requires { ⌜ inverse ≡ inverseOf den ⌝ }

@@ -5,6 +5,7 @@ use Rattle.curve.proofs.Reciprocal.{Estimates, estimates, whole, quotie
 use Rattle.curve.proofs.affine.divided.Statement.{statement}
 use Rattle.curve.proofs.affine.divided.Tie as tie
 
+-- what the estimates leave
 known : (c : tie.Start) → Estimates (c .args .n) (c .args .den) (c .args .inverse)
 known c = estimates (c .args .n) (c .args .den) (c .args .inverse) (c .pre .0) (c .pre .1)
 
@@ -38,7 +39,7 @@ add-result-3 c = let e = known (c .before) in record { fits = omega arith }
 returns : tie.Need-returns
 returns c =
     let a = c .before .args in
-    quotient-is (a .n) (a .den) _ _ (whole (a .n) (a .den) (a .inverse) (known (c .before))) (c .if1 .taken)
+    quotient-is (a .n) (a .den) _ _ (whole (a .n) (a .den) (a .inverse) (known (c .before))) (omega arith)
 
 returns-2 : tie.Need-returns-2
 returns-2 c =
