@@ -1,0 +1,11 @@
+-- Laws of the definitions in specs/, and the promises.
+pub mod Ranges
+pub mod Requests
+pub mod Lines
+pub mod Numbers
+pub mod Points
+pub mod Replies
+pub mod Results
+pub mod Cards
+pub mod Effects
+pub mod Progress

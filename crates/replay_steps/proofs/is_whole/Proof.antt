@@ -1,0 +1,18 @@
+-- `is_whole` meets its contract.
+-- Assumes nothing.
+use mathlib.Core.Path.{_≡_}
+use borrow.Author.Tests.{eq-eqb, ne-eqb}
+use Rattle.replay_steps.proofs.is_whole.Statement.{statement}
+use Rattle.replay_steps.proofs.is_whole.Tie as tie
+
+returns : tie.Need-returns
+returns c = rw (eq-eqb (c .before .args .number) 0 (c .if1 .taken))
+
+returns-2 : tie.Need-returns-2
+returns-2 c = rw (ne-eqb (c .before .before .args .number) 0 (c .before .if1 .left), eq-eqb (c .before .before .args .number) 2 (c .if2 .taken))
+
+returns-3 : tie.Need-returns-3
+returns-3 c = rw (ne-eqb (c .before .before .args .number) 0 (c .before .if1 .left), ne-eqb (c .before .before .args .number) 2 (c .if2 .left))
+
+pub is-whole-spec : {M : Type 1} → statement M
+is-whole-spec = tie.close (tie.spec returns returns-2 returns-3)

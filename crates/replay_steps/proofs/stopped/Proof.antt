@@ -1,0 +1,39 @@
+-- `stopped` meets its contract.
+-- Assumes nothing.
+use mathlib.Core.Path.{_≡_, ap, sym, subst}
+use mathlib.Core.List.{List, [], _∷_}
+use native.Mathlib.Omega.{arith}
+use lib.IntN.{ℤ, pos}
+use mir.Syntax.{w64}
+use mir.Val.{toZ, ofZ}
+use Rattle.replay_steps.specs.Line.{capped}
+use Rattle.replay_steps.specs.Inner.{Fitting}
+use Rattle.replay_steps.proofs.Numbers.{number-fits, capped-fits, capped-back}
+use Rattle.replay_steps.proofs.Replies.{wrote-stop}
+use borrow.Author.Needs.{needs}
+use Rattle.replay_steps.proofs.stopped.Statement.{statement}
+use Rattle.replay_steps.proofs.stopped.Tie as tie
+
+capped-requires : tie.Need-capped-requires
+capped-requires c κs = search needs
+
+slice-aggregate-write-line : tie.Need-slice-aggregate-write-line
+slice-aggregate-write-line c = search needs
+
+-- the two numbers
+numbers : (p : tie.After-capped) → _≡_ {A = List ℤ} (pos 99 ∷ toZ w64 (ofZ w64 (p .capped .result)) ∷ []) (pos 99 ∷ capped (p .before .before .args .session .offset) ∷ [])
+numbers p = ap (λ (z : ℤ). pos 99 ∷ z ∷ []) (rw (p .capped .ensures) (capped-back (p .before .before .args .session .offset)))
+
+write-line-requires : tie.Need-write-line-requires
+write-line-requires c κs = let p = c .before .before in let s = p .before .before in (subst Fitting (sym (numbers p)) (number-fits 99 (omega arith), (capped-fits (s .args .session .offset), tt)), omega (arith, s .pre))
+
+same-length : tie.Need-same-length
+same-length c = search needs
+
+returns : tie.Need-returns
+returns c = let w = c .before .before in let p = w .before .before .before in wrote-stop (p .before .before .args .session) _ (numbers p) (w .write-line .ensures .0) (w .write-line .ensures .1)
+
+pub stopped-spec : {M : Type 1} → statement M
+stopped-spec =
+    tie.close
+    (tie.spec capped-requires slice-aggregate-write-line write-line-requires same-length returns)

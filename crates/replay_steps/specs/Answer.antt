@@ -1,0 +1,86 @@
+-- The answer to each call of a case: the case that it leaves, and the numbers of its line.
+-- Assumes nothing.
+use mathlib.Core.Bool.{Bool, true, false, cond}
+use mathlib.Core.List.{List, [], _∷_, _++_}
+use Prim.Native.Nat.{ℕ, zero, suc, _+_}
+use lib.Dec.{eqb}
+use lib.IntN.{ℤ, pos}
+use Rattle.curve.specs.declared.Curve.{Curve}
+use Rattle.curve.specs.declared.Rect.{Rect}
+use Rattle.curve.specs.declared.Refusal.{Refusal}
+use Rattle.curve.specs.declared.Subdivision.{Subdivision}
+use Rattle.curve.specs.Curve.{point}
+use Rattle.curve.specs.Calls.{evaluated, subdivided, elevated, bounded}
+use Rattle.search.specs.Verdict.{Report, reported}
+use Rattle.search.specs.Search.{searched}
+use Rattle.ledger.specs.Ledger.{Piece, left, right, kept}
+use Rattle.replay_steps.specs.declared.Case.{Case}
+use Rattle.replay_steps.specs.Line.{added, capped}
+
+pub record Answer : Type 0 where
+  pub case : Case
+  pub numbers : List ℤ
+
+-- ---- rectangles as numbers
+
+-- a rectangle's four sides in their order, and then some numbers
+abbrev pub sidesThen : Rect → List ℤ → List ℤ
+sidesThen p more = p .resistance .low ∷ p .resistance .high ∷ p .reactance .low ∷ p .reactance .high ∷ more
+
+-- the sides of the first m rectangles
+unfoldable pub sidesTo : ℕ → (ℕ → Rect) → List ℤ
+sidesTo zero P = []
+sidesTo (suc m) P = sidesTo m P ++ sidesThen (P m) []
+
+-- the sides of a curve's rectangles 0 to n
+abbrev pub sidesOf : Curve → List ℤ
+sidesOf c = sidesTo (c .degree + 1) (point c)
+
+-- ---- the calls
+
+-- a refused call: the refusal's number and place; the case stays as it is
+abbrev pub refusing : Case → Refusal → Answer
+refusing s r = record { case = s; numbers = pos (r .number) ∷ capped (r .place) ∷ [] }
+
+-- the answer to a call with this refusal: where number 0 says that it is accepted, 0, the results, and the case that it leaves
+abbrev pub answering : Case → Refusal → Case → List ℤ → Answer
+answering s r next results = cond (eqb (r .number) 0) (record { case = next; numbers = pos 0 ∷ results }) (refusing s r)
+
+-- a reading: the load's sides, and the ledger's sum with the degree
+unfoldable pub evaluation : Case → ℕ → ℕ → Answer
+evaluation s num den =
+    let e = evaluated (s .curve) num den in
+    answering s (e .refusal) s (sidesThen (e .load) (capped (s .sum + s .curve .degree) ∷ []))
+
+abbrev pub pieceOf : Bool → Piece
+pieceOf true = right
+pieceOf false = left
+
+-- a cut: the degree and both pieces, of which one is kept; the sum grows by the degree
+unfoldable pub subdivision : Case → ℕ → ℕ → Bool → Answer
+subdivision s num den keepsRight =
+    let d = subdivided (s .curve) num den in
+    answering s (d .refusal)
+    (record { curve = kept (pieceOf keepsRight) d; sum = added (s .sum) (s .curve .degree) })
+    (pos (s .curve .degree) ∷ (sidesOf (d .left) ++ sidesOf (d .right)))
+
+-- a raising: the new degree and the raised curve, which is kept; the sum grows by one
+unfoldable pub elevation : Case → Answer
+elevation s =
+    let e = elevated (s .curve) in
+    answering s (e .refusal)
+    (record { curve = e .curve; sum = added (s .sum) 1 })
+    (pos (e .curve .degree) ∷ sidesOf (e .curve))
+
+-- the bounds
+unfoldable pub enclosure : Case → Answer
+enclosure s =
+    let b = bounded (s .curve) in
+    answering s (b .refusal) s (sidesThen (b .rect) [])
+
+-- a walk over a box: the verdict's number, depth, index and count
+unfoldable pub verdict : Case → Rect → ℕ → ℕ → Answer
+verdict s limits depth budget =
+    let a = searched (s .curve) limits depth budget in
+    let v = reported (a .verdict) in
+    answering s (a .refusal) s (pos (v .number) ∷ pos (v .depth) ∷ pos (v .index) ∷ pos (v .count) ∷ [])

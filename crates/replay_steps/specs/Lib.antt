@@ -1,0 +1,6 @@
+pub mod Line
+pub mod Request
+pub mod Answer
+pub mod Step
+pub mod Promises
+pub mod Inner

@@ -1,0 +1,251 @@
+// A list of calls from cards, one step at a time: a card or a call line is taken from the front of some bytes, and its answer is written.
+ghost use mathlib.Core.Path.{_≡_};
+ghost use Prim.Native.Nat.{_≤_};
+ghost use lib.ListN.{length};
+ghost use Rattle.replay_steps.specs.Step.{
+  started,
+  idle,
+  stopping,
+  passing,
+  cardSize,
+  cardAt,
+  isWhole,
+  openingBy,
+  cardStep,
+  callStep,
+  lineRoom,
+  effect,
+  stepped,
+  written,
+};
+ghost use Rattle.replay_steps.specs.Inner.{passedBy, Replied, Wrote};
+
+mod answers;
+mod fields;
+mod request;
+mod write;
+
+use answers::Reply;
+use answers::added;
+use answers::capped;
+use answers::elevation;
+use answers::enclosure;
+use answers::evaluation;
+use answers::refused;
+use answers::subdivision;
+use answers::verdict;
+use curve::Curve;
+use curve::Interval;
+use curve::PLACES;
+use curve::Rect;
+use curve::Refusal;
+use fields::word_at;
+use request::Request;
+use request::request_of;
+use write::write_line;
+
+// The bytes that a step needs to see, unless the input ends before: the longest card.
+pub const WINDOW: usize = 380;
+
+// The bytes that the longest answer takes: a cut at degree 8.
+pub const LINE_ROOM: usize = 741;
+
+// The present curve of a case, and the ledger's sum of steps.
+pub struct Case {
+    pub curve: Curve,
+    pub sum: u64,
+}
+
+// What is held between two steps: the case, whether one has begun, and the bytes passed so far.
+pub struct Session {
+    pub case: Case,
+    pub active: bool,
+    pub offset: u64,
+}
+
+// What a step met: a whole card or line; the end of the input; a malformed line; an output buffer that is too short.
+pub enum Status {
+    Done,
+    Ended,
+    Stopped,
+    NoRoom,
+}
+
+// The answer of step.
+pub struct Stepped {
+    pub session: Session,
+    pub consumed: usize,
+    pub written: usize,
+    pub status: Status,
+}
+
+// The session before any input.
+pub fn start() -> Session
+    ensures { λ r. ⌜ r ≡ started ⌝ }
+{
+    let none = Rect {
+        resistance: Interval { low: 0, high: 0 },
+        reactance: Interval { low: 0, high: 0 },
+    };
+    let points = [none; PLACES];
+    Session {
+        case: Case {
+            curve: Curve { degree: 0, points },
+            sum: 0,
+        },
+        active: false,
+        offset: 0,
+    }
+}
+
+// Takes the card or the call line at the front of the input, and writes its answer.
+pub fn step(session: Session, input: &[u8], out: &mut [u8]) -> Stepped
+    ensures { λ r. ⌜ (r ≡ stepped (effect session (now (input .entry)) (now (out .entry)))) × (now (out .exit) ≡ written (effect session (now (input .entry)) (now (out .entry))) (now (out .entry))) ⌝ }
+{
+    if out.len() < LINE_ROOM {
+        return idle(session, Status::NoRoom);
+    }
+    if input.len() == 0 {
+        return idle(session, Status::Ended);
+    }
+    if session.active {
+        return call_step(session, request_of(input), out);
+    }
+    card_step(session, input, out)
+}
+
+// Nothing taken and nothing written.
+fn idle(session: Session, status: Status) -> Stepped
+    ensures { λ r. ⌜ r ≡ stepped (idle session status) ⌝ }
+{
+    Stepped {
+        session,
+        consumed: 0,
+        written: 0,
+        status,
+    }
+}
+
+// A malformed line ends the run: 99 and its offset.
+fn stopped(session: Session, out: &mut [u8]) -> Stepped
+    requires { ⌜ lineRoom ≤ length (now out) ⌝ }
+    ensures { λ r. ⌜ Wrote (stopping session) (now (out .entry)) r (now (out .exit)) ⌝ }
+{
+    let offset = capped(session.offset);
+    let numbers = [99, offset];
+    let written = write_line(out, &numbers);
+    Stepped {
+        session,
+        consumed: 0,
+        written,
+        status: Status::Stopped,
+    }
+}
+
+// A line is done: the session so many bytes further.
+fn passed(offset: u64, consumed: usize, active: bool, reply: Reply) -> Stepped
+    ensures { λ r. ⌜ r ≡ passedBy offset consumed active reply ⌝ }
+{
+    let case = reply.case;
+    Stepped {
+        session: Session {
+            case,
+            active,
+            offset: added(offset, consumed as u64),
+        },
+        consumed,
+        written: reply.written,
+        status: Status::Done,
+    }
+}
+
+// The bytes of the card that begins here, as its degree tells; those of degree 0 where it is none.
+fn card_size(input: &[u8]) -> usize
+    ensures { λ r. ⌜ r ≡ cardSize (now (input .entry)) ⌝ }
+{
+    let degree = word_at(input, 0).value;
+    if degree <= 8 {
+        return 11 + 41 * (degree as usize + 1);
+    }
+    52
+}
+
+// The card at the front of the input.
+fn card_at(input: &[u8]) -> &[u8]
+    ensures { λ r. ⌜ now r ≡ cardAt (now (input .entry)) ⌝ }
+{
+    let size = card_size(input);
+    if size <= input.len() {
+        return &input[..size];
+    }
+    input
+}
+
+// Whether a card with this refusal is well formed: accepted, or refused with 2 or 3.
+fn is_whole(number: u32) -> bool
+    ensures { λ r. ⌜ r ≡ isWhole number ⌝ }
+{
+    if number == 0 {
+        return true;
+    }
+    if number == 2 {
+        return true;
+    }
+    number == 3
+}
+
+// A card's line: 0 and the degree, or its refusal.
+fn opening(case: Case, refusal: Refusal, out: &mut [u8]) -> Reply
+    requires { ⌜ lineRoom ≤ length (now out) ⌝ }
+    ensures { λ r. ⌜ Replied (openingBy case refusal) (now (out .entry)) r (now (out .exit)) ⌝ }
+{
+    if refusal.number != 0 {
+        return refused(case, refusal, out);
+    }
+    let numbers = [0, case.curve.degree as i64];
+    let written = write_line(out, &numbers);
+    Reply { case, written }
+}
+
+// A card begins a case.
+fn card_step(session: Session, input: &[u8], out: &mut [u8]) -> Stepped
+    requires { ⌜ lineRoom ≤ length (now out) ⌝ }
+    ensures { λ r. ⌜ Wrote (cardStep session (now (input .entry))) (now (out .entry)) r (now (out .exit)) ⌝ }
+{
+    let text = card_at(input);
+    let size = text.len();
+    let card = card_text::read_card(text);
+    let refusal = card.refusal;
+    if !is_whole(refusal.number) {
+        return stopped(session, out);
+    }
+    let curve = card.curve;
+    let case = Case { curve, sum: 0 };
+    passed(session.offset, size, true, opening(case, refusal, out))
+}
+
+// A call line inside a case.
+fn call_step(session: Session, request: Request, out: &mut [u8]) -> Stepped
+    requires { ⌜ lineRoom ≤ length (now out) ⌝ }
+    ensures { λ r. ⌜ Wrote (callStep session request) (now (out .entry)) r (now (out .exit)) ⌝ }
+{
+    let case = session.case;
+    let offset = session.offset;
+    match request {
+        Request::Invalid => stopped(session, out),
+        Request::Close => passed(offset, 11, false, Reply { case, written: 0 }),
+        Request::Evaluate { num, den } => {
+            passed(offset, 31, true, evaluation(case, num, den, out))
+        }
+        Request::Subdivide { num, den, right } => {
+            passed(offset, 31, true, subdivision(case, num, den, right, out))
+        }
+        Request::Elevate => passed(offset, 11, true, elevation(case, out)),
+        Request::Bounds => passed(offset, 11, true, enclosure(case, out)),
+        Request::Search {
+            limits,
+            depth,
+            budget,
+        } => passed(offset, 71, true, verdict(case, limits, depth, budget, out)),
+    }
+}
