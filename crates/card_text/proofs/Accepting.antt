@@ -1,23 +1,15 @@
 -- What follows from number 0: each refusal in a row has it, and each test holds.
 -- Assumes nothing.
-use mathlib.Core.Path.{_≡_, refl, sym, ap, _∙_}
-use mathlib.Core.Bool.{Bool, true, false, cond, _&&_}
+use mathlib.Core.Path.{_≡_, refl, ap, _∙_}
+use mathlib.Core.Bool.{Bool, true, false, _&&_}
 use Prim.Native.Nat.{ℕ, suc, _≤_}
 use native.Mathlib.Omega.{arith}
-use lib.Dec.{eqb, leb}
-use borrow.Author.Tests.{eqb-true, eqb-false, leb-true}
+use lib.Dec.{leb}
+use borrow.Author.Tests.{leb-true}
 use Rattle.curve.specs.declared.Refusal.{Refusal}
 use Rattle.curve.specs.Refusals.{none, _orElse_, unless}
 use Rattle.columns.proofs.Decode.{both}
 use Rattle.card_text.specs.Reading.{unlessAt}
-
--- the second comes to its turn where the first is none
-pub or-zero : (a b : Refusal) → (a orElse b) .number ≡ 0 → (a .number ≡ 0) × (b .number ≡ 0)
-or-zero a b h = go (eqb (a .number) 0) refl
-  where
-    go : (t : Bool) → eqb (a .number) 0 ≡ t → (a .number ≡ 0) × (b .number ≡ 0)
-    go true e = (eqb-true (a .number) 0 e, rw e at h)
-    go false e = absurd (eqb-false (a .number) 0 e (rw e at h))
 
 pub or-none : (a b : Refusal) → a ≡ none → b ≡ none → (a orElse b) ≡ none
 or-none a b e f = ap (λ (x : Refusal). x orElse b) e ∙ f

@@ -2,12 +2,12 @@
 -- Assumes nothing.
 use mathlib.Core.Path.{_≡_, refl, sym, ap, ap₂, _∙_, subst}
 use mathlib.Core.Bool.{Bool, true, false, _&&_, cond}
-use Prim.Native.Nat.{ℕ, suc, _^_, _<_}
+use Prim.Native.Nat.{suc, _^_, _<_}
 use lib.Dec.{T}
 use lib.IntN.{ℤ, pos, negℤ}
 use lib.Signed.{leZ, leZ-yes, mag}
-use mir.Syntax.{w32, w64}
-use mir.Val.{SFits, toZ, ofZ, hbits}
+use mir.Syntax.{w64}
+use mir.Val.{toZ, ofZ, hbits}
 use mir.ValLaws.{toZ-ofZ}
 use Rattle.columns.proofs.Decode.{both}
 use Rattle.curve.specs.declared.Interval.{Interval}

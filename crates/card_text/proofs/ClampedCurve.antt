@@ -1,18 +1,17 @@
 -- A curve whose sides the reader holds: it is refused as the decoded one is, and is the decoded one where that is accepted.
 -- Assumes nothing.
-use mathlib.Core.Path.{_≡_, refl, sym, ap, ap₂, _∙_, fun-ext}
+use mathlib.Core.Path.{_≡_, refl, sym, ap, _∙_, fun-ext}
 use mathlib.Core.Bool.{Bool, true, false, cond}
 use mathlib.Core.List.{List}
 use Prim.Native.Nat.{ℕ, zero, suc, _+_, _≤_, _<_}
 use native.Mathlib.Decide.{decLe}
 use native.Mathlib.Omega.{arith}
-use lib.Dec.{T}
 use Rattle.curve.specs.declared.Curve.{Curve}
 use Rattle.curve.specs.declared.Rect.{Rect}
 use Rattle.curve.specs.declared.Refusal.{Refusal}
 use Rattle.curve.specs.Limits.{maxDegree}
 use Rattle.curve.specs.Rect.{zeroRect, inRange, sidesInRange, sidesOrdered}
-use Rattle.curve.specs.Curve.{point, curveOf, pointsOf}
+use Rattle.curve.specs.Curve.{point, curveOf}
 use Rattle.curve.specs.Refusals.{refusal, _orElse_, firstFailing, degreeRefusal, rangeRefusal, orderRefusal, curveRefusal, Accepted}
 use Rattle.curve.proofs.Accepted.{accepted-facts, sides-range}
 use Rattle.curve.proofs.Places.{points-agree}

@@ -1,14 +1,15 @@
 -- A number as a degree, by the two tests that the code makes of it, and back.
 -- Assumes nothing.
-use mathlib.Core.Path.{_≡_, refl, sym, _∙_}
-use mathlib.Core.Bool.{true, false, false≢true, true≢false}
+use mathlib.Core.Path.{_≡_, refl, sym, ap, _∙_}
+use mathlib.Core.Bool.{Bool, true, false, cond, false≢true, true≢false}
 use native.Mathlib.Omega.{arith}
-use lib.Dec.{T, leb·zero}
+use Prim.Native.Nat.{ℕ, _≤_}
+use lib.Dec.{T, leb, leb·zero}
 use lib.IntN.{ℤ, pos, negsuc, natAbs}
 use lib.Signed.{leZ, nonNeg}
 use mir.Syntax.{w32}
 use mir.Val.{Fits}
-use borrow.Author.Tests.{leb-true}
+use borrow.Author.Tests.{leb-true, le-leb}
 use Rattle.curve.specs.Limits.{maxDegree}
 use Rattle.card_text.specs.Reading.{degreeOf}
 
@@ -30,3 +31,17 @@ degree-low (negsuc n) low = refl
 pub degree-fits : (z : ℤ) → leZ (pos 0) z ≡ true → leZ z (pos maxDegree) ≡ true → T (nonNeg z) × Fits w32 (natAbs z)
 degree-fits (pos n) low high = (tt, record { fits = omega (arith, leb-true n maxDegree high) })
 degree-fits (negsuc n) low high = absurd (false≢true low)
+
+-- a degree that is not 0 is the number itself
+pub degree-back : (z : ℤ) → 1 ≤ degreeOf z → z ≡ pos (degreeOf z)
+unfolding degreeOf
+degree-back (pos n) h = by (leb n maxDegree) h
+  where
+    by : (b : Bool) → 1 ≤ cond b n 0 → pos n ≡ pos (cond b n 0)
+    by true h = refl
+    by false h = absurd (omega arith)
+degree-back (negsuc n) h = absurd (omega arith)
+
+pub degree-of-pos : (n : ℕ) → n ≤ maxDegree → degreeOf (pos n) ≡ n
+unfolding degreeOf
+degree-of-pos n h = ap (λ (b : Bool). cond b n 0) (le-leb n maxDegree h)

@@ -12,10 +12,11 @@ use Rattle.curve.specs.Limits.{maxDegree}
 use Rattle.curve.specs.Curve.{zeroCurve}
 use Rattle.curve.specs.Refusals.{_orElse_, degreeRefusal, rangeRefusal, orderRefusal, curveRefusal}
 use Rattle.curve.proofs.Refused.{or-first, or-second}
+use Rattle.curve.proofs.Accepted.{or-split}
 use Rattle.card_text.specs.declared.CardRead.{CardRead}
 use Rattle.card_text.specs.Card.{cardLength}
 use Rattle.card_text.specs.Reading.{decoded, columnRefusal, lineEndRefusal, shortRefusal, lengthRefusal, headerRefusal, rowsRefusal, cardRefusal, readCard}
-use Rattle.card_text.proofs.Accepting.{or-zero, unless-zero, from-one}
+use Rattle.card_text.proofs.Accepting.{unless-zero, from-one}
 
 module _ (bytes : List ℕ) where
   -- what is known once the first line is accepted
@@ -31,10 +32,10 @@ module _ (bytes : List ℕ) where
   unfolding headerRefusal lengthRefusal
   first-line h =
       let n = decoded bytes .degree in
-      let (short, h₁) = or-zero (shortRefusal bytes) _ h in
-      let (entry, h₂) = or-zero (columnRefusal bytes 0) _ h₁ in
-      let (ended, h₃) = or-zero (lineEndRefusal bytes 10) _ h₂ in
-      let (degree, whole) = or-zero (degreeRefusal (decoded bytes)) (lengthRefusal n (length bytes)) h₃ in
+      let (short, h₁) = or-split (shortRefusal bytes) _ h in
+      let (entry, h₂) = or-split (columnRefusal bytes 0) _ h₁ in
+      let (ended, h₃) = or-split (lineEndRefusal bytes 10) _ h₂ in
+      let (degree, whole) = or-split (degreeRefusal (decoded bytes)) (lengthRefusal n (length bytes)) h₃ in
       let (low, high) = from-one maxDegree n degree in
       record {
         entry = entry;

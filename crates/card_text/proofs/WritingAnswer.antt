@@ -1,55 +1,43 @@
--- The writer's refusals and answers, case by case.
+-- The writer's answer by whether the call is refused.
 -- Assumes nothing.
 use mathlib.Core.Path.{_≡_, sym, ap, _∙_}
 use mathlib.Core.Bool.{Bool, cond}
 use mathlib.Core.List.{List, _++_}
-use Prim.Native.Nat.{ℕ, _+_, _≤_, _<_}
+use Prim.Native.Nat.{ℕ, _+_, _≤_}
 use native.Mathlib.Omega.{arith}
 use lib.Dec.{leb, eqb}
 use lib.ListN.{length, drop}
-use borrow.Author.Tests.{le-leb, lt-leb, leb-true, eq-eqb, ne-eqb}
+use borrow.Author.Tests.{le-leb, leb-true, eq-eqb, ne-eqb}
 use Rattle.curve.specs.declared.Curve.{Curve}
 use Rattle.curve.specs.declared.Refusal.{Refusal}
 use Rattle.curve.specs.Curve.{point}
-use Rattle.curve.specs.Refusals.{refusal, none, _orElse_, curveRefusal, Accepted}
-use Rattle.curve.proofs.Refused.{or-first}
-use Rattle.curve.proofs.Accepted.{or-none, number-accepted, accepted-facts}
+use Rattle.curve.specs.Refusals.{none, curveRefusal, Accepted}
+use Rattle.curve.proofs.Accepted.{number-accepted, accepted-facts, or-split}
 use Rattle.card_text.specs.declared.CardWritten.{CardWritten}
 use Rattle.card_text.specs.Card.{header, rows, cardOf, headerLength, cardLength}
 use Rattle.card_text.specs.Reading.{unlessAt}
 use Rattle.card_text.specs.Writing.{writingRefusal, writeCard, bytesAfter}
 use Rattle.card_text.specs.Inner.{placed}
-use Rattle.card_text.proofs.Accepting.{or-zero, unless-zero}
+use Rattle.card_text.proofs.Accepting.{or-none, unless-zero, unless-none}
 use Rattle.card_text.proofs.Fitting.{header-long, card-long}
 use Rattle.card_text.proofs.Placed.{placed-front, placed-then}
 
 module _ (c : Curve) (size : ℕ) where
   -- 12, or none
-  lack : Refusal
+  abbrev lack : Refusal
   lack = unlessAt (leb (cardLength (c .degree)) size) 12 (cardLength (c .degree))
 
-  -- 1 to 3
-  pub writing-refused : {r : Refusal} → r ≡ curveRefusal c → (r .number ≡ 0 → ⊥) → r ≡ writingRefusal c size
-  unfolding writingRefusal lack
-  writing-refused {r} e some = or-first r lack some ∙ ap (λ (x : Refusal). x orElse lack) e
-
-  -- 12
-  pub writing-short : Accepted c → size < cardLength (c .degree) → writingRefusal c size ≡ refusal 12 (cardLength (c .degree))
-  unfolding writingRefusal lack
-  writing-short ok h =
-      or-none (curveRefusal c) lack ok ∙ ap (λ (b : Bool). unlessAt b 12 (cardLength (c .degree))) (lt-leb (cardLength (c .degree)) size h)
-
-  -- none
   pub writing-accepted : Accepted c → cardLength (c .degree) ≤ size → writingRefusal c size ≡ none
-  unfolding writingRefusal lack
+  unfolding writingRefusal
   writing-accepted ok h =
-      or-none (curveRefusal c) lack ok ∙ ap (λ (b : Bool). unlessAt b 12 (cardLength (c .degree))) (le-leb (cardLength (c .degree)) size h)
+      or-none (curveRefusal c) lack ok
+      (unless-none (leb (cardLength (c .degree)) size) 12 (cardLength (c .degree)) (le-leb (cardLength (c .degree)) size h))
 
   -- number 0 says that the curve is accepted and that there is room
   pub writing-zero : writingRefusal c size .number ≡ 0 → Accepted c × (cardLength (c .degree) ≤ size)
   unfolding writingRefusal
   writing-zero h =
-      let (first, second) = or-zero (curveRefusal c) (unlessAt (leb (cardLength (c .degree)) size) 12 (cardLength (c .degree))) h in
+      let (first, second) = or-split (curveRefusal c) lack h in
       (number-accepted c first, leb-true (cardLength (c .degree)) size (unless-zero (leb (cardLength (c .degree)) size) 11 (cardLength (c .degree)) second))
 
 -- ---- the answer, by the test of the refusal's number

@@ -1,4 +1,5 @@
 pub mod Card
 pub mod Reading
 pub mod Writing
+pub mod Promises
 pub mod Inner

@@ -34,7 +34,7 @@ numberOf Malformed = pos 0
 abbrev pub numberAt : List ℕ → ℕ → ℤ
 numberAt bytes at = numberOf (readAt bytes at)
 
--- a number as a degree: any that is above the highest or below 0 becomes 0, which refusal 1 meets
+-- a number as a degree: one above the highest or below 0 becomes 0, so that refusal 1 meets it
 unfoldable pub degreeOf : ℤ → ℕ
 degreeOf (pos n) = cond (leb n maxDegree) n 0
 degreeOf (negsuc n) = 0
@@ -46,7 +46,7 @@ intervalAt bytes at = record { low = numberAt bytes at; high = numberAt bytes (a
 unfoldable pub rectAt : List ℕ → ℕ → Rect
 rectAt bytes at = record { resistance = intervalAt bytes at; reactance = intervalAt bytes (at + 20) }
 
--- the curve that the numbers give, however large they are
+-- the curve that the numbers give, with whatever sides, however large
 unfoldable pub decoded : List ℕ → Curve
 decoded bytes = curveOf (degreeOf (numberAt bytes 0)) (λ k. rectAt bytes (rowAt k))
 

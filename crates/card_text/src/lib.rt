@@ -50,14 +50,17 @@ pub fn read_card(bytes: &[u8]) -> CardRead
         degree: header.degree,
         points,
     };
-    let refusal = first_of(rows.refusal, curve_refusal(curve));
-    if refusal.number != 0 {
+    let late = first_of(rows.refusal, curve_refusal(curve));
+    if late.number != 0 {
         return CardRead {
-            refusal,
+            refusal: late,
             curve: zero_curve(),
         };
     }
-    CardRead { refusal, curve }
+    CardRead {
+        refusal: late,
+        curve,
+    }
 }
 
 // Writes a curve's card to the front of a buffer; refusals 1, 2, 3 and 12.

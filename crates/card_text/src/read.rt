@@ -129,8 +129,8 @@ fn read_entry(bytes: &[u8], at: usize) -> Entry
 pub fn read_header(bytes: &[u8]) -> Header
     ensures { λ r. ⌜ (r .refusal ≡ headerRefusal (now (bytes .entry))) × (r .degree ≡ degreeOf (numberAt (now (bytes .entry)) 0)) ⌝ }
 {
-    let first = read_entry(bytes, 0);
-    let degree = degree_of(first.value);
+    let entry = read_entry(bytes, 0);
+    let degree = degree_of(entry.value);
     let size = bytes.len();
     if size < HEADER_LENGTH {
         return Header {
@@ -143,7 +143,7 @@ pub fn read_header(bytes: &[u8]) -> Header
     }
     let later = first_of(line_end_refusal(bytes, 10), size_refusal(degree, size));
     Header {
-        refusal: first_of(first.refusal, later),
+        refusal: first_of(entry.refusal, later),
         degree,
     }
 }

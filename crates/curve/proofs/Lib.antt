@@ -1,7 +1,8 @@
 -- Laws of the definitions in specs/, and the promises.
 pub mod Machine
 pub mod Sides
-pub mod Counted
+pub mod Reciprocal
+pub mod Rises
 pub mod Refused
 pub mod Places
 pub mod Stages

@@ -19,11 +19,16 @@ use Rattle.bernstein.proofs.Table.{table-agree, table-property, table-suc, tabl
 use Rattle.curve.specs.declared.Rect.{Rect}
 use Rattle.curve.specs.Limits.{places, maxSide}
 use Rattle.curve.specs.Rect.{zeroRect, affineRect, affineInterval, Coordinate, resistance, reactance, along, end}
-use Rattle.curve.specs.Curve.{pointsOf}
-use Rattle.curve.specs.Inner.{Side, Held, Factors, staged}
+use Rattle.curve.specs.Curve.{tabulate, pointsOf}
+use Rattle.curve.specs.Inner.{Side, Held, Factors}
 use Rattle.curve.proofs.Places.{length-tabulate, getD-tabulate, is-tabulate, set-tabulate, is-points, points-agree, points-at, points-past}
 
 -- ---- one stage, map by map
+
+-- a stage in place: the first m entries are maps of neighbours, and the others are kept
+unfoldable pub staged : ℕ → (Rect → Rect → Rect) → List Rect → List Rect
+staged m map entries =
+    tabulate places (λ k. cond (ltb k m) (map (getD entries k zeroRect) (getD entries (suc k) zeroRect)) (getD entries k zeroRect))
 
 module _ (map : Rect → Rect → Rect) (entries : List Rect) where
   mapped : ℕ → Rect

@@ -1,21 +1,18 @@
 -- What the functions inside the crate ask of each other. No public contract cites it.
 -- Assumes nothing.
 use mathlib.Core.Path.{_≡_}
-use mathlib.Core.List.{List}
 use mathlib.Core.Bool.{Bool, true, false, cond}
-use Prim.Native.Nat.{ℕ, suc, _+_, _≤_, _<_}
-use lib.IntN.{ℤ, pos, negℤ}
+use Prim.Native.Nat.{ℕ, _+_, _*_, _/_, _≤_, _<_}
+use lib.IntN.{ℤ, pos, negℤ, _+ℤ_, _*ℤ_}
 use lib.Signed.{_≤ℤ_}
-use lib.Dec.{ltb}
-use lib.ListN.{length, getD}
 use Rattle.rational.specs.Rounding.{Rounding, down, up}
 use Rattle.curve.specs.declared.Interval.{Interval}
 use Rattle.curve.specs.declared.Rect.{Rect}
 use Rattle.curve.specs.declared.Curve.{Curve}
 use Rattle.curve.specs.declared.Refusal.{Refusal}
-use Rattle.curve.specs.Limits.{maxDegree, places, maxSide, maxDen}
-use Rattle.curve.specs.Rect.{Coordinate, end, along, zeroRect}
-use Rattle.curve.specs.Curve.{point, tabulate}
+use Rattle.curve.specs.Limits.{maxDegree, maxSide, maxDen}
+use Rattle.curve.specs.Rect.{Coordinate, end, along}
+use Rattle.curve.specs.Curve.{point}
 use Rattle.curve.specs.Refusals.{none, refusal}
 
 -- a side within its range
@@ -37,6 +34,27 @@ pub record Factors (s t den : ℕ) : Type 0 where
   pub positive : 0 < den
   pub small : den ≤ maxDen
 
+-- two weighted sides, counted from the lower one: `by` is the distance to the other, and `factor` the other's factor
+pub record Rising (a b : ℤ) (s t : ℕ) (from : ℤ) (by factor : ℕ) : Type 0 where
+  pub sum : pos s *ℤ a +ℤ pos t *ℤ b ≡ pos (factor * by) +ℤ from *ℤ pos (s + t)
+  pub near : by ≤ 33554432
+  pub light : factor ≤ s + t
+  pub start : Side from
+
+-- the scale of a divisor's inverse, 2 to the power 38
+abbrev pub scale : ℕ
+scale = 274877906944
+
+-- a divisor's inverse, in parts of the scale
+abbrev pub inverseOf : ℕ → ℕ
+inverseOf den = scale / den
+
+-- what a division by an inverse asks: a divisor in range, a quotient of at most twice the largest side
+pub record Dividing (n den : ℕ) : Type 0 where
+  pub positive : 0 < den
+  pub small : den ≤ maxDen
+  pub near : n < 33554433 * den
+
 abbrev pub roundingOf : Bool → Rounding
 roundingOf true = up
 roundingOf false = down
@@ -46,18 +64,6 @@ pub record Ready (c : Curve) : Type 0 where
   pub some : 1 ≤ c .degree
   pub few : c .degree ≤ maxDegree
   pub held : (k : ℕ) → k ≤ c .degree → Held (point c k)
-
--- what one stage of m maps asks of the entries before it
-pub record Stage (m s t den : ℕ) (entries : List Rect) : Type 0 where
-  pub all : length entries ≡ places
-  pub room : m < places
-  pub held : (k : ℕ) → k ≤ m → Held (getD entries k zeroRect)
-  pub factors : Factors s t den
-
--- one stage in place: the first m entries are maps of neighbours, and the others are kept
-unfoldable pub staged : ℕ → (Rect → Rect → Rect) → List Rect → List Rect
-staged m map entries =
-    tabulate places (λ k. cond (ltb k m) (map (getD entries k zeroRect) (getD entries (suc k) zeroRect)) (getD entries k zeroRect))
 
 -- the refusal of one rectangle's order
 abbrev pub orderRefusalAt : Bool → ℕ → Refusal

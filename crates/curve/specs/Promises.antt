@@ -9,7 +9,7 @@ use lib.Ieee.Exact.{HasValue}
 use Rattle.curve.specs.declared.Curve.{Curve}
 use Rattle.curve.specs.declared.Rect.{Rect}
 use Rattle.curve.specs.declared.Subdivision.{Subdivision}
-use Rattle.curve.specs.Limits.{maxDegree, places, stepsPerOhm}
+use Rattle.curve.specs.Limits.{maxDegree, stepsPerOhm}
 use Rattle.curve.specs.Rect.{Inside, inRange, zeroRect}
 use Rattle.curve.specs.Curve.{point, SameCurve}
 use Rattle.curve.specs.Refusals.{Accepted, AcceptedAt}

@@ -1,64 +1,97 @@
 // The affine map of two sides, intervals and rectangles, rounded outward.
-// A side is moved up by MAX_SIDE into the natural numbers, so that the quotient is one unsigned division.
+// A map is counted from the lower of its two sides, so that its quotient is one of natural numbers and at most twice the largest side.
 ghost use mathlib.Core.Path.{_≡_};
-ghost use Prim.Native.Nat.{_≤_};
-ghost use lib.IntN.{pos, _+ℤ_};
-ghost use Rattle.rational.specs.Rounding.{quotient};
+ghost use Prim.Native.Nat.{_/_};
 ghost use Rattle.bernstein.specs.Affine.{affine};
 ghost use Rattle.curve.specs.Rect.{affineInterval, affineRect};
-ghost use Rattle.curve.specs.Inner.{Side, Sides, Held, Factors, roundingOf};
-ghost use Rattle.curve.specs.Limits.{maxSide};
+ghost use Rattle.curve.specs.Inner.{Side, Sides, Held, Factors, Rising, Dividing, inverseOf, roundingOf};
 use crate::Interval;
-use crate::MAX_SIDE;
 use crate::Rect;
 
-// The side as a natural number, counted from the least side.
-fn raised(side: i32) -> u64
-    requires { ⌜ Side side ⌝ }
-    ensures { λ r. ⌜ pos r ≡ side +ℤ pos maxSide ⌝ }
-{
-    (side as i64 + MAX_SIDE as i64) as u64
+// The scale of a divisor's inverse, 2 to the power 38. The inverse of den, SCALE / den rounded down, is worked out once for many maps.
+pub const SCALE: u64 = 274877906944;
+
+// The two sides as the lower one, the distance to the other and the other's factor.
+struct Rise {
+    from: i32,
+    by: u64,
+    factor: u64,
 }
 
-// The side that a natural number stands for.
-fn lowered(n: u64) -> i32
-    requires { ⌜ n ≤ 33554432 ⌝ }
-    ensures { λ r. ⌜ r +ℤ pos maxSide ≡ pos n ⌝ }
-{
-    (n as i64 - MAX_SIDE as i64) as i32
-}
-
-// (s × a + t × b) / den, rounded up or down.
-fn affine_side(a: i32, b: i32, s: u64, t: u64, den: u64, up: bool) -> i32
+fn rise_of(a: i32, b: i32, s: u64, t: u64) -> Rise
     requires { ⌜ Side a ⌝ }
     requires { ⌜ Side b ⌝ }
-    requires { ⌜ Factors s t den ⌝ }
-    ensures { λ r. ⌜ r ≡ affine (roundingOf up) s t den a b ⌝ }
+    ensures { λ r. ⌜ Rising a b s t (r .from) (r .by) (r .factor) ⌝ }
 {
-    let lift = if up { den - 1 } else { 0 };
-    lowered((s * raised(a) + t * raised(b) + lift) / den)
-}
-
-fn affine_interval(i: Interval, j: Interval, s: u64, t: u64, den: u64) -> Interval
-    requires { ⌜ Sides i ⌝ }
-    requires { ⌜ Sides j ⌝ }
-    requires { ⌜ Factors s t den ⌝ }
-    ensures { λ r. ⌜ r ≡ affineInterval s t den i j ⌝ }
-{
-    Interval {
-        low: affine_side(i.low, j.low, s, t, den, false),
-        high: affine_side(i.high, j.high, s, t, den, true),
+    if a <= b {
+        let by = (b - a) as u64;
+        return Rise {
+            from: a,
+            by,
+            factor: t,
+        };
+    }
+    let by = (a - b) as u64;
+    Rise {
+        from: b,
+        by,
+        factor: s,
     }
 }
 
-pub fn affine_rect(p: Rect, q: Rect, s: u64, t: u64, den: u64) -> Rect
+// n / den without a division by den, which is slow: two estimates from below, the second of what the first left, and one correction.
+fn divided(n: u64, den: u64, inverse: u64) -> u64
+    requires { ⌜ Dividing n den ⌝ }
+    requires { ⌜ inverse ≡ inverseOf den ⌝ }
+    ensures { λ r. ⌜ r ≡ n / den ⌝ }
+{
+    let near = n * inverse / SCALE;
+    let rest = n - near * den;
+    let more = rest * inverse / SCALE;
+    let last = rest - more * den;
+    if last < den {
+        near + more
+    } else {
+        near + more + 1
+    }
+}
+
+// (s × a + t × b) / den, rounded up or down.
+fn affine_side(a: i32, b: i32, s: u64, t: u64, den: u64, inverse: u64, up: bool) -> i32
+    requires { ⌜ Side a ⌝ }
+    requires { ⌜ Side b ⌝ }
+    requires { ⌜ Factors s t den ⌝ }
+    requires { ⌜ inverse ≡ inverseOf den ⌝ }
+    ensures { λ r. ⌜ r ≡ affine (roundingOf up) s t den a b ⌝ }
+{
+    let rise = rise_of(a, b, s, t);
+    let lift = if up { den - 1 } else { 0 };
+    let steps = divided(rise.factor * rise.by + lift, den, inverse);
+    rise.from + steps as i32
+}
+
+fn affine_interval(i: Interval, j: Interval, s: u64, t: u64, den: u64, inverse: u64) -> Interval
+    requires { ⌜ Sides i ⌝ }
+    requires { ⌜ Sides j ⌝ }
+    requires { ⌜ Factors s t den ⌝ }
+    requires { ⌜ inverse ≡ inverseOf den ⌝ }
+    ensures { λ r. ⌜ r ≡ affineInterval s t den i j ⌝ }
+{
+    Interval {
+        low: affine_side(i.low, j.low, s, t, den, inverse, false),
+        high: affine_side(i.high, j.high, s, t, den, inverse, true),
+    }
+}
+
+pub fn affine_rect(p: Rect, q: Rect, s: u64, t: u64, den: u64, inverse: u64) -> Rect
     requires { ⌜ Held p ⌝ }
     requires { ⌜ Held q ⌝ }
     requires { ⌜ Factors s t den ⌝ }
+    requires { ⌜ inverse ≡ inverseOf den ⌝ }
     ensures { λ r. ⌜ r ≡ affineRect s t den p q ⌝ }
 {
     Rect {
-        resistance: affine_interval(p.resistance, q.resistance, s, t, den),
-        reactance: affine_interval(p.reactance, q.reactance, s, t, den),
+        resistance: affine_interval(p.resistance, q.resistance, s, t, den, inverse),
+        reactance: affine_interval(p.reactance, q.reactance, s, t, den, inverse),
     }
 }

@@ -1,4 +1,4 @@
-// The load of an antenna across a band as an interval Bézier curve: records, and the calls that evaluate, subdivide and bound it.
+// The load of an antenna across a band as an interval Bézier curve: records, and the calls that evaluate, subdivide, elevate and bound it.
 // Every call takes any record and any numbers, answers a refusal for bad input, and equals its definition in specs/Calls.antt.
 ghost use mathlib.Core.Path.{_≡_};
 ghost use Rattle.curve.specs.Calls.{evaluated, subdivided, elevated, bounded};

@@ -7,6 +7,7 @@ ghost use Rattle.curve.specs.Inner.{Ready};
 use crate::Curve;
 use crate::PLACES;
 use crate::Rect;
+use crate::affine::SCALE;
 use crate::affine::affine_rect;
 use crate::table::zero_rect;
 
@@ -17,6 +18,8 @@ pub fn raised_points(c: Curve) -> [Rect; PLACES]
     ensures { λ r. ⌜ r ≡ pointsOf (c .degree + 1) (raisedPoint (c .degree) (point c)) ⌝ }
 {
     let n = c.degree as usize;
+    let d = (n + 1) as u64;
+    let inverse = SCALE / d;
     let mut points = [zero_rect(); PLACES];
     points[0] = c.points[0];
     let mut k = 0;
@@ -24,7 +27,7 @@ pub fn raised_points(c: Curve) -> [Rect; PLACES]
         let p = c.points[k];
         k += 1;
         let q = c.points[k];
-        points[k] = affine_rect(p, q, k as u64, (n + 1 - k) as u64, (n + 1) as u64);
+        points[k] = affine_rect(p, q, k as u64, (n + 1 - k) as u64, d, inverse);
     }
     points[n + 1] = c.points[n];
     points

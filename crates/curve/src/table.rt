@@ -1,14 +1,15 @@
 // De Casteljau's table of a curve, from which the load and both pieces are read.
 ghost use mathlib.Core.Path.{_≡_};
 ghost use Prim.Native.Nat.{_-_, _≤_};
-ghost use Rattle.curve.specs.Rect.{affineRect, zeroRect};
+ghost use Rattle.curve.specs.Rect.{zeroRect};
 ghost use Rattle.curve.specs.Curve.{pointsOf, point, leftOf, rightOf};
 ghost use Rattle.curve.specs.Limits.{maxDegree};
-ghost use Rattle.curve.specs.Inner.{Factors, Ready, Stage, staged};
+ghost use Rattle.curve.specs.Inner.{Factors, Ready};
 use crate::Curve;
 use crate::Interval;
 use crate::PLACES;
 use crate::Rect;
+use crate::affine::SCALE;
 use crate::affine::affine_rect;
 
 // The control points of both pieces.
@@ -26,38 +27,29 @@ pub fn zero_rect() -> Rect
     }
 }
 
-// The control points of the curve, and zero in the places past its degree.
-fn trimmed(c: Curve) -> [Rect; PLACES]
+// The table before its first stage: the control points with zero in the places past the degree, and the left piece's first point.
+fn first_table(c: Curve) -> Table
     requires { ⌜ c .degree ≤ maxDegree ⌝ }
-    ensures { λ r. ⌜ r ≡ pointsOf (c .degree) (point c) ⌝ }
+    ensures { λ r. ⌜ (r .left ≡ pointsOf 0 (point c)) × (r .right ≡ pointsOf (c .degree) (point c)) ⌝ }
 {
     let n = c.degree as usize;
-    let mut points = [zero_rect(); PLACES];
-    points[0] = c.points[0];
+    let none = [zero_rect(); PLACES];
+    let first = c.points[0];
+    let mut table = Table {
+        left: none,
+        right: none,
+    };
+    table.left[0] = first;
+    table.right[0] = first;
     let mut k = 0;
     while k < n {
         k += 1;
-        points[k] = c.points[k];
+        table.right[k] = c.points[k];
     }
-    points
+    table
 }
 
-// One stage in place: the first m entries become the maps of neighbours.
-fn stage(entries: [Rect; PLACES], m: usize, s: u64, t: u64, den: u64) -> [Rect; PLACES]
-    requires { ⌜ Stage m s t den entries ⌝ }
-    ensures { λ r. ⌜ r ≡ staged m (affineRect s t den) entries ⌝ }
-{
-    let mut next = entries;
-    let mut k = 0;
-    while k < m {
-        let p = next[k];
-        let q = next[k + 1];
-        next[k] = affine_rect(p, q, s, t, den);
-        k += 1;
-    }
-    next
-}
-
+// The stages are made in place, one map a turn: in stage j + 1 the first k entries are done. A stage that is done hands its first entry to the left piece.
 pub fn table_of(c: Curve, num: u32, den: u32) -> Table
     requires { ⌜ Ready c ⌝ }
     requires { ⌜ Factors (den - num) num den ⌝ }
@@ -67,14 +59,20 @@ pub fn table_of(c: Curve, num: u32, den: u32) -> Table
     let s = (den - num) as u64;
     let t = num as u64;
     let d = den as u64;
-    let mut right = trimmed(c);
-    let mut left = [zero_rect(); PLACES];
-    left[0] = right[0];
+    let inverse = SCALE / d;
+    let mut table = first_table(c);
     let mut j = 0;
+    let mut k = 0;
     while j < n {
-        right = stage(right, n - j, s, t, d);
-        j += 1;
-        left[j] = right[0];
+        let p = table.right[k];
+        let q = table.right[k + 1];
+        table.right[k] = affine_rect(p, q, s, t, d, inverse);
+        k += 1;
+        if j + k == n {
+            j += 1;
+            k = 0;
+            table.left[j] = table.right[0];
+        }
     }
-    Table { left, right }
+    table
 }

@@ -1,14 +1,16 @@
 -- Document 01's examples that carry a star: what the definitions answer beside what the document says.
 -- Assumes nothing.
 use mathlib.Core.Path.{_≡_}
-use mathlib.Core.List.{List, [], _∷_, _++_, map}
+use mathlib.Core.List.{List, [], _∷_, map}
 use Prim.Native.Nat.{ℕ}
 use lib.IntN.{ℤ, pos, negsuc}
 use Rattle.curve.specs.declared.Curve.{Curve}
 use Rattle.curve.specs.declared.Rect.{Rect}
 use Rattle.curve.specs.Curve.{curveOf, point}
 use Rattle.curve.specs.Calls.{evaluated, subdivided, elevated, bounded}
-use Rattle.examples.specs.Shown.{values, valueAt, ends, refusalShown, evaluationShown, resistancesShown}
+use Rattle.search.specs.Verdict.{outside, spent, undecided}
+use Rattle.search.specs.Search.{searched}
+use Rattle.examples.specs.Shown.{values, ends, refusalShown, evaluationShown, resistancesShown, verdictShown}
 
 -- an example: the numbers that a definition answers, and those that the document gives
 pub record Example : Type 0 where
@@ -26,6 +28,10 @@ cardPoint (ℕ.suc k) = record { resistance = record { low = pos 1; high = pos 3
 
 unfoldable pub cardCurve : Curve
 cardCurve = curveOf 1 cardPoint
+
+-- the walk's box: resistance 0 to 2, reactance 0 to 0
+abbrev pub smallBox : Rect
+smallBox = record { resistance = record { low = pos 0; high = pos 2 }; reactance = record { low = pos 0; high = pos 0 } }
 
 unfoldable pub examples : List Example
 examples =
@@ -56,6 +62,11 @@ examples =
     ∷ (refusalShown (evaluated cardCurve 1 65537 .refusal) gives pos 4 ∷ pos 0 ∷ [])
     ∷ (refusalShown (evaluated cardCurve 1 0 .refusal) gives pos 4 ∷ pos 0 ∷ [])
     ∷ (refusalShown (evaluated cardCurve 8 7 .refusal) gives pos 5 ∷ pos 0 ∷ [])
+    -- resistance values 0, 4, box 0 to 2 and 0 to 0: depth 2, budget 5 gives Outside, depth 2, index 3, count 5; budget 4 gives Spent, count 4
+    ∷ (verdictShown (searched (values 1 (pos 0 ∷ pos 4 ∷ [])) smallBox 2 5 .verdict) gives pos outside ∷ pos 2 ∷ pos 3 ∷ pos 5 ∷ [])
+    ∷ (verdictShown (searched (values 1 (pos 0 ∷ pos 4 ∷ [])) smallBox 2 4 .verdict) gives pos spent ∷ pos 0 ∷ pos 0 ∷ pos 4 ∷ [])
+    -- the same at depth 1: Undecided, depth 1, index 1, count 3
+    ∷ (verdictShown (searched (values 1 (pos 0 ∷ pos 4 ∷ [])) smallBox 1 5 .verdict) gives pos undecided ∷ pos 1 ∷ pos 1 ∷ pos 3 ∷ [])
     ∷ []
 
 -- every example of the list is answered as the document says

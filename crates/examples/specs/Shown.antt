@@ -1,17 +1,17 @@
 -- Answers as lists of numbers, so that examples of different calls stand in one list.
 -- Assumes nothing.
 use mathlib.Core.List.{List, [], _∷_, _++_}
-use mathlib.Core.Bool.{cond}
 use Prim.Native.Nat.{ℕ, suc, _+_}
 use lib.IntN.{ℤ, pos}
-use lib.Dec.{eqb}
-use lib.ListN.{length, getD}
+use lib.ListN.{getD}
 use Rattle.curve.specs.declared.Interval.{Interval}
 use Rattle.curve.specs.declared.Rect.{Rect}
 use Rattle.curve.specs.declared.Curve.{Curve}
 use Rattle.curve.specs.declared.Refusal.{Refusal}
 use Rattle.curve.specs.declared.Evaluation.{Evaluation}
 use Rattle.curve.specs.Rect.{zeroInterval}
+use Rattle.search.specs.declared.Verdict.{Verdict}
+use Rattle.search.specs.Verdict.{reported}
 use Rattle.curve.specs.Curve.{point, curveOf}
 
 -- "values": one coordinate with low equal to high, the other zero
@@ -43,3 +43,8 @@ resistancesFrom c (suc m) k = ends (point c k .resistance) ++ resistancesFrom c 
 -- the degree, then the resistances of all control points
 unfoldable pub resistancesShown : Curve → List ℤ
 resistancesShown c = pos (c .degree) ∷ resistancesFrom c (c .degree + 1) 0
+
+-- the number of a walk's answer, the depth and the index of the piece that it names, and the count
+abbrev pub verdictShown : Verdict → List ℤ
+verdictShown v =
+    pos (reported v .number) ∷ pos (reported v .depth) ∷ pos (reported v .index) ∷ pos (reported v .count) ∷ []

@@ -31,20 +31,20 @@ use Rattle.ledger.proofs.Steps.{parameter-ratio}
 -- ---- the two ways of lying near, for each side
 
 -- inward, where no rounding adds anything
-abbrev inward : Rounding → Side
+abbrev pub inward : Rounding → Side
 inward down = over
 inward up = under
 
-inward-none : (r : Rounding) (m : ℕ) → error (inward r) r * m ≡ 0
+pub inward-none : (r : Rounding) (m : ℕ) → error (inward r) r * m ≡ 0
 inward-none down m = zero-mul m
 inward-none up m = zero-mul m
 
-bounded-near : (r : Rounding) (v : Frac) (s : ℤ) → Bounded r v s → Near (inward r) 0 s (rat v)
+pub bounded-near : (r : Rounding) (v : Frac) (s : ℤ) → Bounded r v s → Near (inward r) 0 s (rat v)
 unfolding embed
 bounded-near down v s h = order-excess (≤ℚ-of h)
 bounded-near up v s h = order-excess (≤ℚ-of h)
 
-near-bounded : (r : Rounding) (v : Frac) (s : ℤ) → Near (inward r) 0 s (rat v) → Bounded r v s
+pub near-bounded : (r : Rounding) (v : Frac) (s : ℤ) → Near (inward r) 0 s (rat v) → Bounded r v s
 unfolding embed
 near-bounded down v s h = ≤ᶠ-of (whole s) v (excess-order h)
 near-bounded up v s h = ≤ᶠ-of v (whole s) (excess-order h)

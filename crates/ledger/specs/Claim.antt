@@ -12,7 +12,7 @@ use Rattle.curve.specs.Rect.{Coordinate, side}
 use Rattle.curve.specs.Refusals.{none, Accepted, AcceptedAt}
 use Rattle.curve.specs.Calls.{evaluated}
 use Rattle.ledger.specs.Ordinary.{Ordinary, InsideOf, Bounded, loadAt, exactSide}
-use Rattle.ledger.specs.Ledger.{Ledger, Call, reading, cut, raising, Piece, opened, parameter, placeOf, refused, after, refusalOf, leaves}
+use Rattle.ledger.specs.Ledger.{Ledger, Call, reading, cut, raising, opened, parameter, placeOf, refused, after, refusalOf, leaves}
 
 -- a side is not farther out than the exact side by more than d steps
 abbrev pub Near : Rounding → ℕ → ℤ → Frac → Type 0

@@ -7,7 +7,7 @@ use native.Mathlib.Numerals.{add-one}
 use native.Mathlib.Omega.{arith}
 use lib.Dec.{eqb}
 use lib.Pow.{pow-mono}
-use borrow.Author.Tests.{eqb-true}
+use borrow.Author.Tests.{eqb-true, eqb-false}
 use Rattle.curve.specs.declared.Rect.{Rect}
 use Rattle.curve.specs.declared.Curve.{Curve}
 use Rattle.curve.specs.declared.Refusal.{Refusal}
@@ -28,13 +28,13 @@ use Rattle.search.proofs.Accepted.{number-facts, same-refusal, answer, 
 
 -- a walk that goes on is not spent
 going-unspent : {v : Verdict} → Going v → reported v .number ≡ spent → ⊥
-going-unspent clear e = let z : _≡_ {A = ℕ} 1 3 = e in omega arith
-going-unspent marked e = let z : _≡_ {A = ℕ} 4 3 = e in omega arith
+going-unspent clear e = eqb-false 1 3 refl e
+going-unspent marked e = eqb-false 4 3 refl e
 
 spent-due : (v : Verdict) → reported v .number ≡ spent → dueOf v ≡ countOf v + 1
-spent-due Refused e = let z : _≡_ {A = ℕ} 0 3 = e in absurd (omega arith)
+spent-due Refused e = absurd (eqb-false 0 3 refl e)
 spent-due (Inside n) e = absurd (going-unspent (clear {n = n}) e)
-spent-due (Outside d i n) e = let z : _≡_ {A = ℕ} 2 3 = e in absurd (omega arith)
+spent-due (Outside d i n) e = absurd (eqb-false 2 3 refl e)
 spent-due (Spent n) e = refl
 spent-due (Undecided d i n) e = absurd (going-unspent (marked {d = d} {i = i} {n = n}) e)
 
@@ -55,7 +55,7 @@ module _ (box : Rect) (budget : ℕ) where
     ended = λ m piece d i v e h. h;
     exhausted = λ m piece d i v g f h s. f;
     contained = λ m piece d i v l w h s. absurd (going-unspent (looked-going (l .going)) s);
-    apart = λ m piece d i v l o h s. let z : _≡_ {A = ℕ} 2 3 = s in absurd (omega arith);
+    apart = λ m piece d i v l o h s. absurd (eqb-false 2 3 refl s);
     limit = λ piece d i v l o h s. absurd (going-unspent (noted-going d i (looked-going (l .going))) s);
     halves = λ m piece d i v l o w u e f left right h. right (left (λ s. absurd (going-unspent (looked-going (l .going)) s)));
   }
@@ -108,12 +108,12 @@ counted c box depth budget =
 
 pub spent-all : SpentAll
 spent-all c box depth budget =
-    by-answer c box depth budget (λ v. reported v .number ≡ spent → countOf v ≡ budget) (λ e. let z : _≡_ {A = ℕ} 0 3 = e in absurd (omega arith))
+    by-answer c box depth budget (λ v. reported v .number ≡ spent → countOf v ≡ budget) (λ e. absurd (eqb-false 0 3 refl e))
     (λ f. walked-spent box budget depth c 0 0 (Inside 0) (λ e. absurd (going-unspent (clear {n = 0}) e)))
 
 pub never-spent : NeverSpent
 never-spent c box depth =
-    by-answer c box depth maxBudget (λ v. reported v .number ≡ spent → ⊥) (λ e. let z : _≡_ {A = ℕ} 0 3 = e in omega arith)
+    by-answer c box depth maxBudget (λ v. reported v .number ≡ spent → ⊥) (λ e. eqb-false 0 3 refl e)
     (λ f s.
     let v = walked box maxBudget depth c 0 0 (Inside 0) in
     let whole-budget = walked-spent box maxBudget depth c 0 0 (Inside 0) (λ e. absurd (going-unspent (clear {n = 0}) e)) s in

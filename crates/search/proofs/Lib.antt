@@ -6,3 +6,7 @@ pub mod Due
 pub mod Accepted
 pub mod Budget
 pub mod Named
+pub mod Dyadic
+pub mod Laid
+pub mod Loads
+pub mod Meaning

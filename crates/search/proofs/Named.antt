@@ -7,6 +7,7 @@ use Prim.Native.Nat.{ℕ, zero, suc, _+_, _*_, _/_, _%_, _≤_, _<_, _^_}
 use native.Mathlib.Nat.{eq-or-lt-of-le, two-pow-succ}
 use native.Mathlib.Numerals.{add-one}
 use native.Mathlib.Omega.{arith}
+use borrow.Author.Tests.{eqb-false}
 use Rattle.curve.specs.declared.Rect.{Rect}
 use Rattle.curve.specs.declared.Curve.{Curve}
 use Rattle.curve.specs.Calls.{bounded, subdivided}
@@ -17,7 +18,7 @@ use Rattle.search.specs.Box.{apartFrom}
 use Rattle.search.specs.Walk.{goesOn, looked, noted, walked}
 use Rattle.search.specs.Pieces.{halfOf, pieceAt, isAcross, acrossTo}
 use Rattle.search.specs.Promises.{FirstNoted, FoundApart, UndecidedNames, OutsideNames}
-use Rattle.search.proofs.Steps.{Going, clear, marked, Within, Over, Rules, walk-keeps}
+use Rattle.search.proofs.Steps.{Going, clear, marked, Within, Crossing, Rules, walk-keeps}
 use Rattle.search.proofs.Counts.{looked-going}
 use Rattle.search.proofs.Accepted.{by-answer}
 
@@ -40,9 +41,9 @@ module _ (c : Curve) where
   piece-half d k i bit e f = ap₂ (λ (b j : ℕ). halfOf b (subdivided (pieceAt c d j) 1 2)) f e
 
   module _ (box : Rect) where
-    across-over : (piece : Curve) → Over box piece → isAcross box piece ≡ true
+    across-crossing : (piece : Curve) → Crossing box piece → isAcross box piece ≡ true
     unfolding isAcross
-    across-over piece o = rw (o .outside, o .touching)
+    across-crossing piece o = rw (o .outside, o .touching)
 
     across-within : (piece : Curve) → Within box piece → isAcross box piece ≡ false
     unfolding isAcross
@@ -63,15 +64,15 @@ module _ (c : Curve) where
     unfolding pieceAt
     whole-place = record { is = refl; above = tt; numbered = omega arith }
 
-    place-across : (d i : ℕ) (piece : Curve) → Place d i piece → Over box piece → acrossTo c box d i ≡ true
+    place-across : (d i : ℕ) (piece : Curve) → Place d i piece → Crossing box piece → acrossTo c box d i ≡ true
     unfolding acrossTo pieceAt
-    place-across zero i piece p o = subst (λ (q : Curve). isAcross box q ≡ true) (p .is) (across-over piece o)
+    place-across zero i piece p o = subst (λ (q : Curve). isAcross box q ≡ true) (p .is) (across-crossing piece o)
     place-across (suc d) i piece p o =
-        ap₂ _&&_ (p .above) (subst (λ (q : Curve). isAcross box q ≡ true) (p .is) (across-over piece o))
+        ap₂ _&&_ (p .above) (subst (λ (q : Curve). isAcross box q ≡ true) (p .is) (across-crossing piece o))
 
-    -- so are both halves of a piece across
+    -- so are both halves of a piece that lies across
     pub place-half :
-        (d i : ℕ) (piece : Curve) → Place d i piece → Over box piece →
+        (d i : ℕ) (piece : Curve) → Place d i piece → Crossing box piece →
         (k bit : ℕ) → k / 2 ≡ i → k % 2 ≡ bit → Place (d + 1) k (halfOf bit (subdivided piece 1 2))
     place-half d i piece p o k bit e f =
         subst (λ (n : ℕ). Place n k (halfOf bit (subdivided piece 1 2))) (sym (add-one d)) (record {
@@ -147,7 +148,7 @@ module _ (c : Curve) where
 
       -- at the limit a piece across is the first, or there is one before it
       told-noted :
-          (d i : ℕ) (piece : Curve) → d + 0 ≡ limit → Place d i piece → Over box piece →
+          (d i : ℕ) (piece : Curve) → d + 0 ≡ limit → Place d i piece → Crossing box piece →
           {v : Verdict} → Going v → Told 0 i v → Told 0 (i + 1) (noted d i v)
       unfolding Told up
       told-noted d i piece e p o clear h =
@@ -204,30 +205,30 @@ module _ (c : Curve) where
 
       told-undecided : (m i : ℕ) (v : Verdict) → Told m i v → reported v .number ≡ undecided → FirstNoted c box limit (reported v .depth) (reported v .index)
       unfolding Told
-      told-undecided m i Refused h e = let z : _≡_ {A = ℕ} 0 4 = e in absurd (omega arith)
-      told-undecided m i (Inside n) h e = let z : _≡_ {A = ℕ} 1 4 = e in absurd (omega arith)
-      told-undecided m i (Outside d k n) h e = let z : _≡_ {A = ℕ} 2 4 = e in absurd (omega arith)
-      told-undecided m i (Spent n) h e = let z : _≡_ {A = ℕ} 3 4 = e in absurd (omega arith)
+      told-undecided m i Refused h e = absurd (eqb-false 0 4 refl e)
+      told-undecided m i (Inside n) h e = absurd (eqb-false 1 4 refl e)
+      told-undecided m i (Outside d k n) h e = absurd (eqb-false 2 4 refl e)
+      told-undecided m i (Spent n) h e = absurd (eqb-false 3 4 refl e)
       told-undecided m i (Undecided d k n) h e = h .1
 
       told-outside : (m i : ℕ) (v : Verdict) → Told m i v → reported v .number ≡ outside → FoundApart c box limit (reported v .depth) (reported v .index)
       unfolding Told
-      told-outside m i Refused h e = let z : _≡_ {A = ℕ} 0 2 = e in absurd (omega arith)
-      told-outside m i (Inside n) h e = let z : _≡_ {A = ℕ} 1 2 = e in absurd (omega arith)
+      told-outside m i Refused h e = absurd (eqb-false 0 2 refl e)
+      told-outside m i (Inside n) h e = absurd (eqb-false 1 2 refl e)
       told-outside m i (Outside d k n) h e = h
-      told-outside m i (Spent n) h e = let z : _≡_ {A = ℕ} 3 2 = e in absurd (omega arith)
-      told-outside m i (Undecided d k n) h e = let z : _≡_ {A = ℕ} 4 2 = e in absurd (omega arith)
+      told-outside m i (Spent n) h e = absurd (eqb-false 3 2 refl e)
+      told-outside m i (Undecided d k n) h e = absurd (eqb-false 4 2 refl e)
 
 -- ---- the promises
 
 pub undecided-names : UndecidedNames
 undecided-names c box depth budget =
     by-answer c box depth budget (λ v. reported v .number ≡ undecided → FirstNoted c box depth (reported v .depth) (reported v .index))
-    (λ e. let z : _≡_ {A = ℕ} 0 4 = e in absurd (omega arith))
+    (λ e. absurd (eqb-false 0 4 refl e))
     (λ f. told-undecided c box depth depth 1 (walked box budget depth c 0 0 (Inside 0)) (walk-told c box depth budget))
 
 pub outside-names : OutsideNames
 outside-names c box depth budget =
     by-answer c box depth budget (λ v. reported v .number ≡ outside → FoundApart c box depth (reported v .depth) (reported v .index))
-    (λ e. let z : _≡_ {A = ℕ} 0 2 = e in absurd (omega arith))
+    (λ e. absurd (eqb-false 0 2 refl e))
     (λ f. told-outside c box depth depth 1 (walked box budget depth c 0 0 (Inside 0)) (walk-told c box depth budget))

@@ -51,11 +51,11 @@ module _ (box : Rect) where
   pub record Within (piece : Curve) : Type 0 where
     pub contained : inBox (bounded piece .rect) box ≡ true
 
-  pub record Off (piece : Curve) : Type 0 where
+  pub record Separate (piece : Curve) : Type 0 where
     pub outside : inBox (bounded piece .rect) box ≡ false
     pub apart : apartFrom (bounded piece .rect) box ≡ true
 
-  pub record Over (piece : Curve) : Type 0 where
+  pub record Crossing (piece : Curve) : Type 0 where
     pub outside : inBox (bounded piece .rect) box ≡ false
     pub touching : apartFrom (bounded piece .rect) box ≡ false
 
@@ -64,7 +64,7 @@ module _ (box : Rect) where
     pub by-step :
         (P : Step → Type 0) (piece : Curve) (v : Verdict) →
         (goesOn v ≡ false → P Ended) → (Going v → countOf v ≡ budget → P Exhausted) →
-        (Looks budget v → Within piece → P Contained) → (Looks budget v → Off piece → P Apart) → (Looks budget v → Over piece → P Across) →
+        (Looks budget v → Within piece → P Contained) → (Looks budget v → Separate piece → P Apart) → (Looks budget v → Crossing piece → P Across) →
         P (stepAt box budget piece v)
     unfolding stepAt
     by-step P piece v ended exhausted contained apart across =
@@ -96,10 +96,10 @@ module _ (box : Rect) where
     pub step-contained : (piece : Curve) (v : Verdict) → Looks budget v → Within piece → stepAt box budget piece v ≡ Contained
     step-contained piece v l w = step-is piece v false true _ (l .going) (ne-eqb (countOf v) budget (l .below)) (w .contained) refl
 
-    pub step-apart : (piece : Curve) (v : Verdict) → Looks budget v → Off piece → stepAt box budget piece v ≡ Apart
+    pub step-apart : (piece : Curve) (v : Verdict) → Looks budget v → Separate piece → stepAt box budget piece v ≡ Apart
     step-apart piece v l w = step-is piece v false false true (l .going) (ne-eqb (countOf v) budget (l .below)) (w .outside) (w .apart)
 
-    pub step-across : (piece : Curve) (v : Verdict) → Looks budget v → Over piece → stepAt box budget piece v ≡ Across
+    pub step-across : (piece : Curve) (v : Verdict) → Looks budget v → Crossing piece → stepAt box budget piece v ≡ Across
     step-across piece v l w = step-is piece v false false false (l .going) (ne-eqb (countOf v) budget (l .below)) (w .outside) (w .touching)
 
     -- what follows across the edge
@@ -150,10 +150,10 @@ module _ (box : Rect) where
       pub ended : (m : ℕ) (piece : Curve) (d i : ℕ) (v : Verdict) → goesOn v ≡ false → P m piece d i v v
       pub exhausted : (m : ℕ) (piece : Curve) (d i : ℕ) (v : Verdict) → Going v → countOf v ≡ budget → P m piece d i v (Spent (countOf v))
       pub contained : (m : ℕ) (piece : Curve) (d i : ℕ) (v : Verdict) → Looks budget v → Within piece → P m piece d i v (looked v)
-      pub apart : (m : ℕ) (piece : Curve) (d i : ℕ) (v : Verdict) → Looks budget v → Off piece → P m piece d i v (Outside d i (countOf v + 1))
-      pub limit : (piece : Curve) (d i : ℕ) (v : Verdict) → Looks budget v → Over piece → P 0 piece d i v (noted d i (looked v))
+      pub apart : (m : ℕ) (piece : Curve) (d i : ℕ) (v : Verdict) → Looks budget v → Separate piece → P m piece d i v (Outside d i (countOf v + 1))
+      pub limit : (piece : Curve) (d i : ℕ) (v : Verdict) → Looks budget v → Crossing piece → P 0 piece d i v (noted d i (looked v))
       pub halves :
-          (m : ℕ) (piece : Curve) (d i : ℕ) (v : Verdict) → Looks budget v → Over piece → (w u : Verdict) →
+          (m : ℕ) (piece : Curve) (d i : ℕ) (v : Verdict) → Looks budget v → Crossing piece → (w u : Verdict) →
           w ≡ walked box budget m (subdivided piece 1 2 .left) (d + 1) (i * 2) (looked v) →
           u ≡ walked box budget m (subdivided piece 1 2 .right) (d + 1) (i * 2 + 1) w →
           P m (subdivided piece 1 2 .left) (d + 1) (i * 2) (looked v) w → P m (subdivided piece 1 2 .right) (d + 1) (i * 2 + 1) w u →
@@ -163,20 +163,18 @@ module _ (box : Rect) where
     pub walk-keeps :
         (P : ℕ → Curve → ℕ → ℕ → Verdict → Verdict → Type 0) → Rules P →
         (m : ℕ) (piece : Curve) (d i : ℕ) (v : Verdict) → P m piece d i v (walked box budget m piece d i v)
-    unfolding walked
+    unfolding walked further
     walk-keeps P r zero piece d i v =
-        by-step (λ s. P 0 piece d i v (after s d i v (noted d i))) piece v
+        by-step (λ s. P 0 piece d i v (after s d i v (further 0 piece d i))) piece v
         (r .ended 0 piece d i v) (r .exhausted 0 piece d i v) (r .contained 0 piece d i v) (r .apart 0 piece d i v) (r .limit piece d i v)
     walk-keeps P r (suc m) piece d i v =
-        by-step
-        (λ s. P (suc m) piece d i v (after s d i v (λ w.
-        walked box budget m (subdivided piece 1 2 .right) (d + 1) (i * 2 + 1) (walked box budget m (subdivided piece 1 2 .left) (d + 1) (i * 2) w))))
-        piece v
+        by-step (λ s. P (suc m) piece d i v (after s d i v (further (suc m) piece d i))) piece v
         (r .ended (suc m) piece d i v) (r .exhausted (suc m) piece d i v) (r .contained (suc m) piece d i v) (r .apart (suc m) piece d i v)
         (λ l o. r .halves m piece d i v l o _ _ refl refl
         (walk-keeps P r m (subdivided piece 1 2 .left) (d + 1) (i * 2) (looked v))
         (walk-keeps P r m (subdivided piece 1 2 .right) (d + 1) (i * 2 + 1) _))
 
+    -- a step that looks is taken by a walk that looks
     pub step-looks : (piece : Curve) (v : Verdict) (s : Step) → stepAt box budget piece v ≡ s → T (looksAt s) → Looks budget v
     step-looks piece v s e =
         subst (λ (t : Step). T (looksAt t) → Looks budget v) e

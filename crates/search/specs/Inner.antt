@@ -5,6 +5,7 @@ use Rattle.search.specs.declared.Verdict.{Verdict}
 use Rattle.search.specs.Limits.{maxDepth, maxBudget}
 use Rattle.search.specs.Walk.{countOf}
 
+-- a piece that is due: with the depths below it it stays within the depth limit, its index fits its depth, and the count so far is within a budget that is not refused
 pub record Due (below depth index budget : ℕ) (v : Verdict) : Type 0 where
   pub limited : depth + below ≤ maxDepth
   pub numbered : index < 2 ^ depth

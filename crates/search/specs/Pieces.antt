@@ -22,7 +22,7 @@ pieceAt c (suc depth) index = halfOf (index % 2) (subdivided (pieceAt c depth (i
 unfoldable pub isAcross : Rect → Curve → Bool
 isAcross box piece = not (inBox (bounded piece .rect) box) && not (apartFrom (bounded piece .rect) box)
 
--- so does every piece on the way from the whole curve to this one, both included: at the depth limit these are the pieces that are noted
+-- the same of every piece on the way from the whole curve to this one, both included: at the depth limit, a piece that the walk notes when it comes to it
 unfoldable pub acrossTo : Curve → Rect → ℕ → ℕ → Bool
 acrossTo c box zero index = isAcross box c
 acrossTo c box (suc depth) index = acrossTo c box depth (index / 2) && isAcross box (pieceAt c (suc depth) index)

@@ -30,10 +30,11 @@ Counted =
     (c : Curve) (box : Rect) (depth budget : ℕ) →
     (answered c box depth budget .count ≤ budget) × (answered c box depth budget .count ≤ 2 ^ (depth + 1) - 1)
 
--- Spent carries the whole budget, and never comes at the largest budget
+-- Spent carries the whole budget
 abbrev pub SpentAll : Type 0
 SpentAll = (c : Curve) (box : Rect) (depth budget : ℕ) → answered c box depth budget .number ≡ spent → answered c box depth budget .count ≡ budget
 
+-- Spent never comes at the largest budget
 abbrev pub NeverSpent : Type 0
 NeverSpent = (c : Curve) (box : Rect) (depth : ℕ) → answered c box depth maxBudget .number ≡ spent → ⊥
 

@@ -17,6 +17,7 @@ spent = 3
 abbrev pub undecided : ℕ
 undecided = 4
 
+-- an answer in numbers
 pub record Report : Type 0 where
   pub number : ℕ
   pub depth : ℕ

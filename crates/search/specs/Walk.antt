@@ -21,6 +21,7 @@ goesOn (Outside depth index count) = false
 goesOn (Spent count) = false
 goesOn (Undecided depth index count) = true
 
+-- the number of pieces looked at
 abbrev pub countOf : Verdict → ℕ
 countOf v = reported v .count
 
@@ -57,11 +58,12 @@ after Apart depth index v further = Outside depth index (countOf v + 1)
 after Across depth index v further = further (looked v)
 
 module _ (box : Rect) (budget : ℕ) where
+  -- the step at a piece, from the verdict so far and the piece's span
   unfoldable pub stepAt : Curve → Verdict → Step
   stepAt piece v =
       stepBy (goesOn v) (eqb (countOf v) budget) (inBox (bounded piece .rect) box) (apartFrom (bounded piece .rect) box)
 
-  -- the walk of a piece with so many depths below it: at the depth limit it is noted; above, it is cut at 1/2, and the left piece is walked wholly before the right
+  -- the walk of a piece with so many depths below it: across the edge it is noted at the depth limit; above, it is cut at 1/2, and the left piece is walked wholly before the right
   unfoldable pub walked : ℕ → Curve → ℕ → ℕ → Verdict → Verdict
   walked zero piece depth index v = after (stepAt piece v) depth index v (noted depth index)
   walked (suc below) piece depth index v =

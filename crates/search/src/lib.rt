@@ -1,4 +1,4 @@
-// The walk over a box: whether every load of a curve lies in the box, found by cutting the curve into pieces.
+// The walk over a box: whether every load of a curve lies in the box, found by cutting the curve into pieces. The box is called `limits`.
 // The call takes any record and any numbers, answers a refusal for bad input, and equals its definition in specs/Search.antt.
 ghost use mathlib.Core.Path.{_≡_};
 ghost use Rattle.search.specs.Search.{boxRefusal, searchRefusal, searched};
@@ -8,11 +8,11 @@ use curve::Curve;
 use curve::Rect;
 use curve::Refusal;
 
-mod lies;
+mod boxes;
 mod step;
 mod verdicts;
 
-use lies::is_box;
+use boxes::is_box;
 use step::Step;
 use step::step_at;
 use verdicts::count_of;
@@ -25,7 +25,7 @@ pub const MAX_DEPTH: u32 = 12;
 // The largest budget: as many pieces as a walk of the largest depth can have.
 pub const MAX_BUDGET: u32 = 8191;
 
-// How a walk ended, with the number of pieces looked at; Outside and Undecided name a piece by its depth and index.
+// How a walk ended, with the number of pieces looked at; Outside and Undecided name a piece by its depth and index. A refused walk has nothing to tell.
 pub enum Verdict {
     Refused,
     Inside(u32),

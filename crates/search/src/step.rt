@@ -2,8 +2,8 @@
 ghost use mathlib.Core.Path.{_≡_};
 ghost use Rattle.search.specs.Walk.{stepAt};
 use crate::Verdict;
-use crate::lies::apart_from;
-use crate::lies::in_box;
+use crate::boxes::apart_from;
+use crate::boxes::in_box;
 use crate::verdicts::count_of;
 use crate::verdicts::goes_on;
 use curve::Curve;

@@ -3,7 +3,6 @@
 use mathlib.Core.Path.{_≡_, sym, ap, ap₂, _∙_, subst}
 use mathlib.Core.List.{List}
 use Prim.Native.Nat.{ℕ, _+_, _≤_}
-use lib.ListN.{length}
 use borrow.Author.Needs.{needs}
 use Rattle.curve.specs.declared.Curve.{Curve}
 use Rattle.curve.specs.declared.Rect.{Rect}
@@ -11,11 +10,10 @@ use Rattle.curve.specs.declared.Refusal.{Refusal}
 use Rattle.curve.specs.Limits.{maxDegree}
 use Rattle.curve.specs.Curve.{curveOf}
 use Rattle.curve.specs.Refusals.{_orElse_, curveRefusal}
-use Rattle.curve.proofs.Accepted.{number-accepted}
+use Rattle.curve.proofs.Accepted.{number-accepted, or-split}
 use Rattle.card_text.specs.Card.{rowAt, cardLength}
 use Rattle.card_text.specs.Reading.{rectAt, decoded, headerRefusal, rowsRefusal, cardRefusal}
-use Rattle.card_text.proofs.Accepting.{or-zero}
-use Rattle.card_text.proofs.ReadingAnswer.{FirstLine, first-line, card-first, card-later, read-refused, read-accepted}
+use Rattle.card_text.proofs.ReadingAnswer.{first-line, card-first, card-later, read-refused, read-accepted}
 use Rattle.card_text.proofs.ClampedCurve.{refusal-clamped, curve-clamped}
 use Rattle.card_text.proofs.RowsRead.{heldAt}
 use Rattle.card_text.proofs.read_card.Statement.{statement}
@@ -102,7 +100,7 @@ returns-3 c =
     let bytes = bytesOf (r .before) in
     let line = none-first (r .before) in
     let zero : cardRefusal bytes .number ≡ 0 = subst (λ (x : Refusal). x .number ≡ 0) (refused f) (c .if2 .left) in
-    let later = or-zero (rowsRefusal bytes (decoded bytes .degree + 1)) (curveRefusal (decoded bytes)) (subst (λ (x : Refusal). x .number ≡ 0) (card-later bytes line) zero) in
+    let later = or-split (rowsRefusal bytes (decoded bytes .degree + 1)) (curveRefusal (decoded bytes)) (subst (λ (x : Refusal). x .number ≡ 0) (card-later bytes line) zero) in
     rw (made r ∙ held-accepted bytes (first-line bytes line .few) (later .1)) (read-accepted bytes (refused f) (c .if2 .left))
 
 pub read-card-spec : {M : Type 1} → statement M

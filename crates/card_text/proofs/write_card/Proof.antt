@@ -1,10 +1,11 @@
 -- `write_card` meets its contract: a refusal and an untouched buffer, or the first line and the others behind it.
 -- Assumes nothing.
-use mathlib.Core.Path.{_≡_, sym, ap, _∙_, subst}
-use Prim.Native.Nat.{ℕ, _≤_}
+use mathlib.Core.Path.{_≡_, _∙_, subst}
+use Prim.Native.Nat.{_≤_}
 use native.Mathlib.Omega.{arith}
 use lib.ListN.{length}
 use borrow.Author.Needs.{needs}
+use Rattle.curve.specs.Limits.{maxDegree}
 use Rattle.curve.specs.declared.Refusal.{Refusal}
 use Rattle.curve.specs.Refusals.{Accepted}
 use Rattle.curve.proofs.Accepted.{accepted-facts}
@@ -28,7 +29,7 @@ accepted c =
     let a = c .before .before .before .before .args in
     writing-zero (a .c) (length (a .out .now)) (subst (λ (r : Refusal). r .number ≡ 0) (c .before .before .writing-refusal .ensures) (c .if1 .left))
 
-few : (c : tie.Else1) → c .before .before .before .before .args .c .degree ≤ 8
+few : (c : tie.Else1) → c .before .before .before .before .args .c .degree ≤ maxDegree
 few c = accepted-facts _ (accepted c .0) .few
 
 write-header-requires : tie.Need-write-header-requires
@@ -41,7 +42,7 @@ write-rows-requires c κs =
     (ok, omega (arith, room, h .write-header .kept .0))
 
 card-length-requires : tie.Need-card-length-requires
-card-length-requires c κs = few (c .before .before .before .before .before .before .before .before)
+card-length-requires c κs = search needs
 
 same-length : tie.Need-same-length
 same-length c = search needs

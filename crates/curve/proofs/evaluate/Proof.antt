@@ -4,11 +4,10 @@ use mathlib.Core.Path.{_≡_, sym, ap, _∙_, subst}
 use borrow.Author.Needs.{needs}
 use lib.Ieee.{ofInt, ofBits}
 use lib.ListN.{getD}
-use Rattle.curve.specs.declared.Rect.{Rect}
 use Rattle.curve.specs.Rect.{zeroRect}
 use Rattle.curve.specs.Curve.{loadOf}
 use Rattle.curve.specs.Ohms.{ohmsOf}
-use Rattle.curve.specs.Refusals.{none, Accepted, AcceptedAt}
+use Rattle.curve.specs.Refusals.{Accepted, AcceptedAt}
 use Rattle.curve.specs.Inner.{Held}
 use Rattle.curve.proofs.Refused.{number-refused, number-passed}
 use Rattle.curve.proofs.Accepted.{call-accepted, accepted-call, accepted-ready, parameter-facts}

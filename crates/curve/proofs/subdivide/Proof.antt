@@ -1,9 +1,9 @@
 -- `subdivide` meets its contract: a refusal with zero curves, or both pieces off the table.
 -- Assumes nothing.
-use mathlib.Core.Path.{_≡_, sym, ap, _∙_, subst}
+use mathlib.Core.Path.{sym, _∙_}
 use borrow.Author.Needs.{needs}
 use Rattle.curve.specs.Curve.{leftOf, rightOf, pointsOf, tabulate}
-use Rattle.curve.specs.Refusals.{none, Accepted, AcceptedAt}
+use Rattle.curve.specs.Refusals.{Accepted, AcceptedAt}
 use Rattle.curve.proofs.Refused.{number-refused, number-passed}
 use Rattle.curve.proofs.Accepted.{call-accepted, accepted-call, accepted-ready, parameter-facts}
 use Rattle.curve.proofs.Answers.{subdivided-accepted, subdivided-refused}

@@ -1,11 +1,9 @@
 -- `search` meets its contract: a refusal with zeros, or the walk from the whole curve.
 -- Assumes nothing.
-use mathlib.Core.Path.{_≡_, sym, _∙_, subst}
+use mathlib.Core.Path.{sym, _∙_}
 use native.Mathlib.Omega.{arith}
 use borrow.Author.Needs.{needs}
-use borrow.Author.Tests.{ne-eqb}
-use Rattle.curve.specs.declared.Refusal.{Refusal}
-use Rattle.search.specs.Search.{searchRefusal}
+use Rattle.curve.proofs.Refused.{number-refused, number-passed}
 use Rattle.search.proofs.Accepted.{Facts, number-facts, facts-none, searched-accepted, searched-refused}
 use Rattle.search.proofs.search.Statement.{statement}
 use Rattle.search.proofs.search.Tie as tie
@@ -17,14 +15,13 @@ returns : tie.Need-returns
 returns c =
     let e = c .before .before .search-refusal .ensures in
     let a = c .before .before .before .args in
-    rw e (sym (searched-refused (a .c) (a .limits) (a .depth) (a .budget)
-    (ne-eqb (searchRefusal (a .c) (a .limits) (a .depth) (a .budget) .number) 0 (subst (λ (r : Refusal). r .number ≡ 0 → ⊥) e (c .if1 .taken)))))
+    rw e (sym (searched-refused (a .c) (a .limits) (a .depth) (a .budget) (number-refused e (c .if1 .taken))))
 
 -- past the test the walk is not refused
 accepted : (c : tie.Else1) → let a = c .before .before .before .args in Facts (a .c) (a .limits) (a .depth) (a .budget)
 accepted c =
     let a = c .before .before .before .args in
-    number-facts (a .c) (a .limits) (a .depth) (a .budget) (subst (λ (r : Refusal). r .number ≡ 0) (c .before .before .search-refusal .ensures) (c .if1 .left))
+    number-facts (a .c) (a .limits) (a .depth) (a .budget) (number-passed (c .before .before .search-refusal .ensures) (c .if1 .left))
 
 walk-requires : tie.Need-walk-requires
 walk-requires c κs = let f = accepted c in record { limited = omega arith; numbered = omega arith; budgeted = f .few; counted = omega arith }

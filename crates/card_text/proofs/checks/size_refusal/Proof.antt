@@ -1,36 +1,51 @@
 -- `size_refusal` meets its contract: both tests are the definition's.
 -- Assumes nothing.
-use mathlib.Core.Path.{sym, _∙_}
-use mathlib.Core.Logic.{⊎-elim}
-use borrow.Author.Needs.{needs}
-use borrow.Author.Tests.{eq-eqb, ne-eqb}
-use Rattle.curve.specs.Limits.{maxDegree}
-use Rattle.curve.proofs.Machine.{too-low, too-high, between}
-use Rattle.card_text.specs.Reading.{lengthRefusal}
+use mathlib.Core.Path.{ap, ap₂, _∙_}
+use mathlib.Core.Bool.{Bool}
+use Prim.Native.Nat.{ℕ}
+use lib.Dec.{eqb}
+use Rattle.curve.specs.declared.Refusal.{Refusal}
+use Rattle.curve.specs.Refusals.{_orElse_}
+use Rattle.card_text.specs.Reading.{unlessAt, lengthRefusal}
 use Rattle.card_text.specs.Inner.{sizeRefusal}
+use borrow.Author.Needs.{needs}
 use Rattle.card_text.proofs.checks.size_refusal.Statement.{statement}
 use Rattle.card_text.proofs.checks.size_refusal.Tie as tie
 
-returns : tie.Need-returns
-unfolding sizeRefusal
-returns c =
-    let n = c .before .args .degree in
-    ⊎-elim (λ w. rw (too-low maxDegree n (w .taken))) (λ w. rw (too-high maxDegree n (w .0 .left) (w .1 .taken))) (c .if1 .came)
+is-degree-requires : tie.Need-is-degree-requires
+is-degree-requires c κs = search needs
+
+refused-unless-requires : tie.Need-refused-unless-requires
+refused-unless-requires c κs = search needs
 
 card-length-requires : tie.Need-card-length-requires
 card-length-requires c κs = search needs
 
-returns-2 : tie.Need-returns-2
-unfolding sizeRefusal lengthRefusal
-returns-2 c =
-    let a = c .before .before .before .before .args in
-    rw (between maxDegree (a .degree) (c .before .before .before .if1 .left) (c .before .before .if2 .left), eq-eqb (a .size) _ (c .if3 .taken ∙ c .before .card-length .ensures))
+refused-unless-requires-2 : tie.Need-refused-unless-requires-2
+refused-unless-requires-2 c κs = search needs
 
-returns-3 : tie.Need-returns-3
+first-of-requires : tie.Need-first-of-requires
+first-of-requires c κs = search needs
+
+returns : tie.Need-returns
 unfolding sizeRefusal lengthRefusal
-returns-3 c =
-    let a = c .before .before .before .before .args in
-    rw (between maxDegree (a .degree) (c .before .before .before .if1 .left) (c .before .before .if2 .left), ne-eqb (a .size) _ (λ e. c .if3 .left (e ∙ sym (c .before .card-length .ensures))))
+returns c =
+    let second = c .before in
+    let length = second .before in
+    let first = length .before in
+    let a = first .before .before .args in
+    c .first-of .ensures
+    ∙ ap₂ (λ (x y : Refusal). x orElse y)
+    (first .refused-unless .ensures ∙ ap (λ (b : Bool). unlessAt b 1 0) (first .before .is-degree .ensures))
+    (second .refused-unless2 .ensures ∙ ap (λ (n : ℕ). unlessAt (eqb (a .size) n) 10 (a .size)) (length .card-length .ensures))
 
 pub size-refusal-spec : {M : Type 1} → statement M
-size-refusal-spec = tie.close (tie.spec returns card-length-requires returns-2 returns-3)
+size-refusal-spec =
+    tie.close
+    (tie.spec
+    is-degree-requires
+    refused-unless-requires
+    card-length-requires
+    refused-unless-requires-2
+    first-of-requires
+    returns)

@@ -1,6 +1,6 @@
 -- `degree_of` meets its contract: the two tests pick the definition's cases.
 -- Assumes nothing.
-use mathlib.Core.Path.{_≡_, sym}
+use mathlib.Core.Path.{_≡_}
 use mathlib.Core.Logic.{⊎-elim}
 use borrow.Author.Needs.{needs}
 use mir.Syntax.{w64}

@@ -1,12 +1,11 @@
 -- `read_ends` meets its contract, column by column.
 -- Assumes nothing.
-use mathlib.Core.Path.{_≡_, sym, ap, ap₂, _∙_}
+use mathlib.Core.Path.{ap, ap₂, _∙_}
 use lib.IntN.{ℤ}
-use Rattle.curve.specs.declared.Interval.{Interval}
 use Rattle.curve.specs.declared.Refusal.{Refusal}
 use Rattle.curve.specs.Refusals.{_orElse_}
 use Rattle.curve.proofs.Machine.{told as told32}
-use Rattle.card_text.specs.Reading.{numberAt, endsRefusal, intervalAt}
+use Rattle.card_text.specs.Reading.{endsRefusal, intervalAt}
 use Rattle.card_text.specs.Inner.{clamped, clampedEnds}
 use Rattle.card_text.proofs.Clamped.{told}
 use borrow.Author.Needs.{needs}

@@ -1,6 +1,6 @@
 -- `read_entry` meets its contract, by what stands in the column.
 -- Assumes nothing.
-use mathlib.Core.Path.{_≡_, sym, _∙_}
+use mathlib.Core.Path.{sym, _∙_}
 use borrow.Author.Needs.{needs}
 use Rattle.card_text.proofs.Clamped.{told}
 use Rattle.card_text.proofs.Entry.{entry-number, entry-malformed}

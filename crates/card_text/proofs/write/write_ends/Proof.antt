@@ -30,13 +30,17 @@ cast-put-column c = wide (side-fits (side-passed (c .before .before .before .bef
 put-column-requires : tie.Need-put-column-requires
 put-column-requires c κs = search needs
 
-first : (c : tie.After-put-column) → c .put-column .last .0 ≡ placed (c .before .before .before .before .before .args .out .now) (c .before .before .before .before .before .args .at) (column (c .before .before .before .before .before .args .i .low))
+-- the low side's column stands
+abbrev start : tie.After-put-column → tie.Start
+start c = c .before .before .before .before .before
+
+first : (c : tie.After-put-column) → c .put-column .last .0 ≡ placed (start c .args .out .now) (start c .args .at) (column (start c .args .i .low))
 first c =
-    let s = c .before .before .before .before .before in
-    let side = s .pre .0 .at down in
+    let a = start c .args in
+    let side = start c .pre .0 .at down in
     c .put-column .ensures .1
-    ∙ ap (λ (z : ℤ). afterPut (s .args .out .now) (s .args .at) z) (passed side)
-    ∙ placed-column (s .args .out .now) (s .args .at) (s .args .i .low) (side-fits-column (s .args .i .low) side) (omega (arith, s .pre .1))
+    ∙ ap (λ (z : ℤ). afterPut (a .out .now) (a .at) z) (passed side)
+    ∙ placed-column (a .out .now) (a .at) (a .i .low) (side-fits-column (a .i .low) side) (omega (arith, start c .pre .1))
 
 add-put-column : tie.Need-add-put-column
 add-put-column c = search needs
@@ -55,13 +59,14 @@ unfolding ends
 returns c =
     let p = c .before .before in
     let q = p .before .before .before .before .before .before in
-    let s = q .before .before .before .before .before in
+    let a = start q .args in
+    let (sides, room) = start q .pre in
     let out = q .put-column .last .0 in
-    let side = s .pre .0 .at up in
+    let ten = column-is-ten (a .i .low) (side-fits-column (a .i .low) (sides .at down)) in
     p .put-column2 .ensures .1
-    ∙ ap (λ (z : ℤ). afterPut out (s .args .at + 10) z) (passed side)
-    ∙ placed-column out (s .args .at + 10) (s .args .i .high) (side-fits-column (s .args .i .high) side) (omega (arith, q .put-column .kept .0, s .pre .1))
-    ∙ placed-then (s .args .out .now) (s .args .at) 10 (column (s .args .i .low)) (column (s .args .i .high)) out (column-is-ten (s .args .i .low) (side-fits-column (s .args .i .low) (s .pre .0 .at down))) (omega (arith, s .pre .1)) (first q)
+    ∙ ap (λ (z : ℤ). afterPut out (a .at + 10) z) (passed (sides .at up))
+    ∙ placed-column out (a .at + 10) (a .i .high) (side-fits-column (a .i .high) (sides .at up)) (omega (arith, q .put-column .kept .0, room))
+    ∙ placed-then (a .out .now) (a .at) 10 (column (a .i .low)) (column (a .i .high)) out ten (omega (arith, room)) (first q)
 
 pub write-ends-spec : {M : Type 1} → statement M
 write-ends-spec =

@@ -1,11 +1,11 @@
 -- `write_rows` meets its contract. The invariant: the lines of k rectangles stand behind the first line. The measure is what is left of them.
 -- Assumes nothing.
 use mathlib.Core.Path.{_≡_, sym, ap, _∙_}
-use mathlib.Core.List.{List}
-use Prim.Native.Nat.{ℕ, _+_, _*_, _-_, _≤_, _<_}
+use Prim.Native.Nat.{ℕ, _+_, _*_, _-_, _≤_}
 use native.Mathlib.Numerals.{add-one}
 use native.Mathlib.Omega.{arith}
 use lib.ListN.{length}
+use Rattle.curve.specs.Limits.{maxDegree}
 use Rattle.curve.specs.declared.Curve.{Curve}
 use Rattle.curve.specs.Curve.{point}
 use Rattle.curve.specs.Refusals.{Accepted}
@@ -25,7 +25,7 @@ abbrev μ-loop : tie.MeasureT-loop
 μ-loop out₀ c n k₀ out k = n + 1 - k
 
 -- what an accepted curve gives
-few : (c : Curve) → Accepted c → c .degree ≤ 8
+few : (c : Curve) → Accepted c → c .degree ≤ maxDegree
 few c ok = accepted-ready c ok .few
 
 held : (c : Curve) → Accepted c → (k : ℕ) → k ≤ c .degree → Held (point c k)
@@ -54,7 +54,7 @@ write-row-requires : tie.Need-write-row-requires Inv-loop μ-loop
 write-row-requires c κs =
     let l = c .before .before .before in
     let s = l .before .before in
-    (held (s .args .t2) (s .pre .0) (l .loop .k) (c .before .before .loop-test .taken), omega (arith, s .pre .1, l .loop .inv .1, c .before .before .loop-test .taken))
+    (held (s .args .t2) (s .pre .0) (l .loop .k) (omega (arith, c .before .before .loop-test .taken)), omega (arith, s .pre .1, l .loop .inv .1, c .before .before .loop-test .taken))
 
 add-k : tie.Need-add-k Inv-loop μ-loop
 add-k c = let s = c .before .before .before .before .before .before .before .before in omega (arith, few (s .args .t2) (s .pre .0))
@@ -70,7 +70,7 @@ loop-again c =
     let s = l .before .before in
     let P = point (s .args .t2) in
     let k = l .loop .k in
-    let in? : k ≤ s .args .t2 .degree = w .before .before .before .loop-test .taken in
+    let in? : k ≤ s .args .t2 .degree = omega (arith, w .before .before .before .loop-test .taken) in
     let size : length (rows k P) ≡ rowLength * k = rows-long k P (λ i h. row-long (held (s .args .t2) (s .pre .0) i (omega arith))) in (
       omega arith,
       w .write-row .kept .0 ∙ l .loop .inv .1,

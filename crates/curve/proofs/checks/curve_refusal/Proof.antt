@@ -1,7 +1,6 @@
 -- `curve_refusal` meets its contract: the degree's test is the definition's.
 -- Assumes nothing.
 use mathlib.Core.Logic.{⊎-elim}
-use native.Mathlib.Omega.{arith}
 use borrow.Author.Tests.{ltb-false}
 use Rattle.curve.specs.Limits.{maxDegree}
 use Rattle.curve.specs.Refusals.{curveRefusal}

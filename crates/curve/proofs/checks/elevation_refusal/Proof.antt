@@ -1,6 +1,6 @@
 -- `elevation_refusal` meets its contract: the curve's refusal first, then the degree's.
 -- Assumes nothing.
-use mathlib.Core.Path.{_≡_, sym, ap, _∙_, subst}
+use mathlib.Core.Path.{_≡_, sym, ap, _∙_}
 use borrow.Author.Needs.{needs}
 use borrow.Author.Tests.{lt-ltb, le-ltb}
 use Rattle.curve.specs.declared.Refusal.{Refusal}

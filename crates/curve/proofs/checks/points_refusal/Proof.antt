@@ -1,17 +1,17 @@
 -- `points_refusal` meets its contract. The invariant: the places before k are passed (`Passed`). The measure is what is left of them.
 -- Assumes nothing.
-use mathlib.Core.Path.{sym, ap, _∙_, subst}
+use mathlib.Core.Path.{sym, _∙_, subst}
 use Prim.Native.Nat.{_+_, _-_, _≤_}
 use native.Mathlib.Omega.{arith}
 use borrow.Author.Needs.{needs}
 use borrow.Author.Tests.{not-true, not-false}
-use Rattle.curve.specs.Inner.{orderRefusalAt}
+use Rattle.curve.specs.Limits.{maxDegree}
 use Rattle.curve.proofs.Refused.{Passed, passed-start, passed-next, passed-range, passed-end}
 use Rattle.curve.proofs.checks.points_refusal.Statement.{statement}
 use Rattle.curve.proofs.checks.points_refusal.Tie as tie
 
 abbrev Inv-loop : tie.InvT-loop
-Inv-loop c n unordered₀ k₀ unordered k = (n ≤ 8) × Passed c n k unordered
+Inv-loop c n unordered₀ k₀ unordered k = (n ≤ maxDegree) × Passed c n k unordered
 
 abbrev μ-loop : tie.MeasureT-loop
 μ-loop c n unordered₀ k₀ unordered k = n + 1 - k

@@ -1,6 +1,6 @@
 -- `hull_interval` meets its contract, by its two ends.
 -- Assumes nothing.
-use mathlib.Core.Path.{ap₂, _∙_}
+use mathlib.Core.Path.{ap₂}
 use borrow.Author.Needs.{needs}
 use Rattle.curve.specs.Rect.{least, greatest, hullInterval}
 use Rattle.curve.proofs.Machine.{told}

@@ -1,10 +1,11 @@
 -- `hull_of` meets its contract. The invariant: `held` is the hull of the points up to k. The measure is what is left of them.
 -- Assumes nothing.
 use mathlib.Core.Path.{_≡_, refl, ap, _∙_}
-use Prim.Native.Nat.{ℕ, suc, _+_, _-_, _≤_}
+use Prim.Native.Nat.{ℕ, _+_, _-_, _≤_}
 use native.Mathlib.Numerals.{add-one}
 use native.Mathlib.Omega.{arith}
 use borrow.Author.Needs.{needs}
+use Rattle.curve.specs.Limits.{maxDegree}
 use Rattle.curve.specs.declared.Rect.{Rect}
 use Rattle.curve.specs.Rect.{hull}
 use Rattle.curve.specs.Curve.{point, hullTo, boundsOf}
@@ -12,7 +13,7 @@ use Rattle.curve.proofs.hull.hull_of.Statement.{statement}
 use Rattle.curve.proofs.hull.hull_of.Tie as tie
 
 abbrev Inv-loop : tie.InvT-loop
-Inv-loop c n held₀ k₀ held k = (n ≤ 8) × (k ≤ n) × (held ≡ hullTo (point c) k)
+Inv-loop c n held₀ k₀ held k = (n ≤ maxDegree) × (k ≤ n) × (held ≡ hullTo (point c) k)
 
 abbrev μ-loop : tie.MeasureT-loop
 μ-loop c n held₀ k₀ held k = n - k

@@ -1,11 +1,12 @@
 -- `raised_points` meets its contract. The invariant: the places up to k are filled. The measure is what is left of them.
 -- Assumes nothing.
-use mathlib.Core.Path.{_≡_, sym, ap, ap₂, _∙_, subst}
+use mathlib.Core.Path.{_≡_, refl, ap, ap₂, _∙_}
 use mathlib.Core.List.{List}
 use Prim.Native.Nat.{ℕ, _+_, _-_, _≤_, _<_}
 use native.Mathlib.Omega.{arith}
 use borrow.Author.Needs.{needs}
 use lib.ListN.{set}
+use Rattle.curve.specs.Limits.{maxDegree}
 use Rattle.curve.specs.declared.Rect.{Rect}
 use Rattle.curve.specs.Curve.{point, pointsOf, raisedPoint}
 use Rattle.curve.proofs.Places.{points-first, points-next}
@@ -14,13 +15,19 @@ use Rattle.curve.proofs.raising.raised_points.Statement.{statement}
 use Rattle.curve.proofs.raising.raised_points.Tie as tie
 
 abbrev Inv-loop : tie.InvT-loop
-Inv-loop c n points₀ k₀ points k = (n < 8) × (k ≤ n) × (points ≡ pointsOf k (raisedPoint n (point c)))
+Inv-loop c n d inverse points₀ k₀ points k = (n < maxDegree) × (k ≤ n) × (points ≡ pointsOf k (raisedPoint n (point c)))
 
 abbrev μ-loop : tie.MeasureT-loop
-μ-loop c n points₀ k₀ points k = n - k
+μ-loop c n d inverse points₀ k₀ points k = n - k
 
 cast-n : tie.Need-cast-n Inv-loop μ-loop
 cast-n c = omega (arith, c .pre .1)
+
+add-d : tie.Need-add-d Inv-loop μ-loop
+add-d c = omega (arith, c .pre .1)
+
+div-inverse : tie.Need-div-inverse Inv-loop μ-loop
+div-inverse c = omega arith
 
 zero-rect-requires : tie.Need-zero-rect-requires Inv-loop μ-loop
 zero-rect-requires c κs = search needs
@@ -60,9 +67,6 @@ add-affine-rect c = omega arith
 sub-affine-rect : tie.Need-sub-affine-rect Inv-loop μ-loop
 sub-affine-rect c = omega arith
 
-add-affine-rect-2 : tie.Need-add-affine-rect-2 Inv-loop μ-loop
-add-affine-rect-2 c = omega arith
-
 mul-points : tie.Need-mul-points Inv-loop μ-loop
 mul-points c = omega arith
 
@@ -75,7 +79,7 @@ affine-rect-requires c κs =
     let k = c .before .before .before .loop .k in
     let held = start .pre .0 .held in
     let few = start .pre .1 in
-    (held k (omega arith), (held (k + 1) (omega arith), record { total = omega arith; positive = omega arith; small = omega arith }))
+    (held k (omega arith), (held (k + 1) (omega arith), (record { total = omega arith; positive = omega arith; small = omega arith }, refl)))
 
 loop-less : tie.Need-loop-less Inv-loop μ-loop
 loop-less c = omega arith
@@ -121,6 +125,8 @@ raised-points-spec =
     Inv-loop
     μ-loop
     cast-n
+    add-d
+    div-inverse
     zero-rect-requires
     element-copy-out-points
     array-set-from-points
@@ -132,7 +138,6 @@ raised-points-spec =
     element-copy-out-q
     add-affine-rect
     sub-affine-rect
-    add-affine-rect-2
     affine-rect-requires
     mul-points
     array-set-from-points-2

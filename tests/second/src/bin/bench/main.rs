@@ -16,20 +16,23 @@ const INPUTS: usize = 256;
 const TIMES: usize = 20;
 const ROUNDS: usize = 101;
 
-/// What both sides are given: the bytes of 36 sides, num and den.
+/// What both sides are given: 36 sides, num and den.
 struct Input {
-    sides: Vec<u8>,
+    sides: Vec<i32>,
     num: u32,
     den: u32,
 }
 
-type Operation = fn(&[u8], u32, u32) -> u64;
+/// The sides of two pieces of degree 8.
+const ROOM: usize = 72;
+
+type Operation = fn(&[i32], u32, u32, &mut [i32]) -> u32;
 
 fn main() -> ExitCode {
     let mut chance = Chance::new(SEED);
     let inputs: Vec<Input> = (0..INPUTS).map(|_| input(&mut chance)).collect();
     println!(
-        "degree 8, {INPUTS} inputs, {ROUNDS} rounds; no buffers are lent, so none are cleared"
+        "degree 8, {INPUTS} inputs, {ROUNDS} rounds; the result's buffer is used again and not cleared"
     );
     let evaluate = side_by_side("evaluate", plain::evaluate, ours::evaluate, &inputs);
     let subdivide = side_by_side("subdivide", plain::subdivide, ours::subdivide, &inputs);
@@ -45,7 +48,7 @@ fn input(chance: &mut Chance) -> Input {
         .places
         .iter()
         .flatten()
-        .flat_map(|side| (*side as i32).to_le_bytes())
+        .map(|side| *side as i32)
         .collect();
     let den = chance.between(1, 65_536);
     Input {
@@ -55,8 +58,20 @@ fn input(chance: &mut Chance) -> Input {
     }
 }
 
+/// Whether both sides answer every input alike.
+fn agree(one: Operation, other: Operation, inputs: &[Input]) -> bool {
+    inputs.iter().all(|Input { sides, num, den }| {
+        let (mut a, mut b) = ([0; ROOM], [0; ROOM]);
+        one(sides, *num, *den, &mut a) == other(sides, *num, *den, &mut b) && a == b
+    })
+}
+
 /// Times one operation on both sides. False where the results differ.
 fn side_by_side(name: &str, plain: Operation, ours: Operation, inputs: &[Input]) -> bool {
+    if !agree(plain, ours, inputs) {
+        println!("{name}: the results differ");
+        return false;
+    }
     let (mut plain_times, mut our_times, mut ratios) = (Vec::new(), Vec::new(), Vec::new());
     for round in 0..ROUNDS {
         // Each side goes first in every other round.
@@ -66,14 +81,10 @@ fn side_by_side(name: &str, plain: Operation, ours: Operation, inputs: &[Input])
             (ours, plain)
         };
         let (one, other) = (timed(first, inputs), timed(second, inputs));
-        if one.1 != other.1 {
-            println!("{name}: the results differ");
-            return false;
-        }
         let (plain_time, our_time) = if round % 2 == 0 {
-            (one.0, other.0)
+            (one, other)
         } else {
-            (other.0, one.0)
+            (other, one)
         };
         plain_times.push(plain_time);
         our_times.push(our_time);
@@ -84,21 +95,21 @@ fn side_by_side(name: &str, plain: Operation, ours: Operation, inputs: &[Input])
     true
 }
 
-/// Nanoseconds for one call, and all results added up.
-fn timed(operation: Operation, inputs: &[Input]) -> (f64, u64) {
+/// Nanoseconds for one call.
+fn timed(operation: Operation, inputs: &[Input]) -> f64 {
+    let mut out = [0; ROOM];
     let begun = Instant::now();
-    let mut sum: u64 = 0;
     for _ in 0..TIMES {
         for Input { sides, num, den } in inputs {
-            sum = sum.wrapping_add(operation(
+            black_box(operation(
                 black_box(sides),
                 black_box(*num),
                 black_box(*den),
+                black_box(&mut out),
             ));
         }
     }
-    let calls = (TIMES * inputs.len()) as f64;
-    (begun.elapsed().as_nanos() as f64 / calls, black_box(sum))
+    begun.elapsed().as_nanos() as f64 / (TIMES * inputs.len()) as f64
 }
 
 fn median(mut times: Vec<f64>) -> f64 {

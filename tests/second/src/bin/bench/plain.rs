@@ -1,53 +1,50 @@
-//! The plain side: the second program's own reading and cut, with the results added up.
+//! The plain side: the second program's own reading and cut, on the same slices of sides.
 
-use second::model::{Curve, Parameter, Rectangle, FARTHEST};
+use second::model::{Curve, Parameter, Rectangle};
 
-const SIDES: usize = 36;
-
-/// The curve of degree 8 whose 36 sides these bytes are, 32 bits each, least byte first.
-fn curve_of(sides: &[u8]) -> Curve {
+/// The curve of degree 8 with these 36 sides.
+fn curve_of(sides: &[i32]) -> Curve {
     let mut curve = Curve {
         degree: 8,
         ..Curve::ZERO
     };
-    for k in 0..SIDES {
-        let bytes = [
-            sides[4 * k],
-            sides[4 * k + 1],
-            sides[4 * k + 2],
-            sides[4 * k + 3],
-        ];
-        curve.places[k / 4][k % 4] = i32::from_le_bytes(bytes).into();
+    for (k, side) in sides.iter().enumerate() {
+        curve.places[k / 4][k % 4] = (*side).into();
     }
     curve
 }
 
-/// Every side plus 16,777,216, added up.
-fn total(rectangles: &[Rectangle]) -> u64 {
-    let mut total = 0;
-    for rectangle in rectangles {
-        total += rectangle
-            .iter()
-            .map(|side| (side + FARTHEST) as u64)
-            .sum::<u64>();
+/// Stores the sides of some rectangles.
+fn store(rectangles: &[Rectangle], out: &mut [i32]) {
+    for (place, side) in out.iter_mut().zip(rectangles.iter().flatten()) {
+        *place = *side as i32;
     }
-    total
 }
 
-pub fn evaluate(sides: &[u8], num: u32, den: u32) -> u64 {
-    let t = Parameter {
+fn parameter(num: u32, den: u32) -> Parameter {
+    Parameter {
         num: num.into(),
         den: den.into(),
-    };
-    curve_of(sides).reading(t).map_or(0, |load| total(&[load]))
+    }
 }
 
-pub fn subdivide(sides: &[u8], num: u32, den: u32) -> u64 {
-    let t = Parameter {
-        num: num.into(),
-        den: den.into(),
-    };
-    curve_of(sides).cut(t).map_or(0, |(left, right)| {
-        total(left.rectangles()) + total(right.rectangles())
-    })
+pub fn evaluate(sides: &[i32], num: u32, den: u32, out: &mut [i32]) -> u32 {
+    match curve_of(sides).reading(parameter(num, den)) {
+        Ok(load) => {
+            store(&[load], out);
+            0
+        }
+        Err(refusal) => refusal.number as u32,
+    }
+}
+
+pub fn subdivide(sides: &[i32], num: u32, den: u32, out: &mut [i32]) -> u32 {
+    match curve_of(sides).cut(parameter(num, den)) {
+        Ok((left, right)) => {
+            store(left.rectangles(), &mut out[..36]);
+            store(right.rectangles(), &mut out[36..]);
+            0
+        }
+        Err(refusal) => refusal.number as u32,
+    }
 }

@@ -1,0 +1,97 @@
+-- What is shown by whether the card is refused, how long it is, and how it gets into the buffer.
+-- Assumes nothing.
+use mathlib.Core.Path.{_≡_, refl, sym, ap, _∙_, subst}
+use mathlib.Core.Bool.{Bool, cond}
+use mathlib.Core.List.{List, [], _∷_, _++_}
+use Prim.Native.Nat.{ℕ, _+_, _≤_, _<_}
+use native.Mathlib.Omega.{arith}
+use lib.IntN.{pos}
+use lib.ListN.{length, take, drop, length-append, length-take}
+use borrow.Author.Tests.{le-leb, lt-leb, eq-eqb, ne-eqb}
+use Rattle.columns.specs.Column.{column}
+use Rattle.curve.specs.declared.Curve.{Curve}
+use Rattle.curve.specs.declared.Evaluation.{Evaluation}
+use Rattle.curve.specs.declared.Refusal.{Refusal}
+use Rattle.curve.specs.Refusals.{Accepted, AcceptedAt, parameterRefusal}
+use Rattle.curve.specs.Calls.{bounded, evaluated}
+use Rattle.curve.specs.Inner.{Held}
+use Rattle.curve.proofs.Answers.{evaluated-accepted}
+use Rattle.curve.proofs.Pieces.{load-held}
+use Rattle.card_text.specs.declared.CardRead.{CardRead}
+use Rattle.card_text.specs.Card.{newline, row}
+use Rattle.card_text.specs.Inner.{placed}
+use Rattle.card_text.specs.Reading.{readCard}
+use Rattle.card_text.proofs.Fitting.{row-long}
+use Rattle.card_text.proofs.Placed.{placed-front}
+use Rattle.card_text.proofs.Promises.{read-refusal}
+use Rattle.card_report.specs.Report.{mostBytes, curveLines, refusalLine, shown, mostShown, reportLength, reportBytes}
+use Rattle.card_report.proofs.BoundsHeld.{bounds-held}
+use Rattle.card_report.proofs.Numbers.{pair-long}
+use Rattle.card_report.proofs.Places.{card-within}
+
+-- ---- lengths
+
+-- 1/2 is a parameter
+half : AcceptedAt 1 2
+unfolding parameterRefusal
+half = refl
+
+pub half-held : (c : Curve) → Accepted c → Held (evaluated c 1 2 .load)
+half-held c ok = subst Held (sym (ap (λ (e : Evaluation). e .load) (evaluated-accepted c 1 2 ok half))) (load-held c 1 2 ok half)
+
+pub lines-long : (c : Curve) → Accepted c → length (curveLines c) ≡ mostShown
+unfolding curveLines
+lines-long c ok =
+    length-append (row (bounded c .rect)) (row (evaluated c 1 2 .load)) ∙ rw (row-long (bounds-held c ok), row-long (half-held c ok))
+
+pub refusal-long : (r : Refusal) → (r .number ≤ mostBytes) × (r .place ≤ mostBytes) → length (refusalLine r) ≡ 21
+unfolding refusalLine
+refusal-long r (h, k) =
+    length-append (column (pos (r .number)) ++ column (pos (r .place))) (newline ∷ [])
+    ∙ rw (pair-long (r .number) (r .place) (omega arith) (omega arith))
+
+-- ---- by the refusal
+
+module _ (input : List ℕ) where
+  abbrev card : List ℕ
+  card = take mostBytes input
+
+  card-size : length card ≤ mostBytes
+  card-size = omega (arith, length-take mostBytes input)
+
+  pub read-within : (readCard card .refusal .number ≤ mostBytes) × (readCard card .refusal .place ≤ mostBytes)
+  read-within = rw (read-refusal card) (card-within card card-size)
+
+  abbrev shownIf : Bool → CardRead → List ℕ
+  shownIf b read = cond b (curveLines (read .curve)) (refusalLine (read .refusal))
+
+  pub shown-refused : (readCard card .refusal .number ≡ 0 → ⊥) → shown input ≡ refusalLine (readCard card .refusal)
+  unfolding shown
+  shown-refused h = ap (λ (b : Bool). shownIf b (readCard card)) (ne-eqb (readCard card .refusal .number) 0 h)
+
+  pub shown-accepted : readCard card .refusal .number ≡ 0 → shown input ≡ curveLines (readCard card .curve)
+  unfolding shown
+  shown-accepted h = ap (λ (b : Bool). shownIf b (readCard card)) (eq-eqb (readCard card .refusal .number) 0 h)
+
+  -- ---- the buffer
+
+  module _ (out : List ℕ) where
+    abbrev lengthIf : Bool → ℕ
+    lengthIf b = cond b (length (shown input)) 0
+
+    abbrev bytesIf : Bool → List ℕ
+    bytesIf b = cond b (shown input ++ drop (length (shown input)) out) out
+
+    pub too-short : length out < mostShown → (0 ≡ reportLength input out) × (out ≡ reportBytes input out)
+    unfolding reportLength reportBytes
+    too-short h = let t = sym (lt-leb mostShown (length out) h) in (ap lengthIf t, ap bytesIf t)
+
+    -- a text that is put at the front
+    pub reported : mostShown ≤ length out → {text last : List ℕ} {n : ℕ} → shown input ≡ text → length text ≡ n → last ≡ placed out 0 text →
+        (n ≡ reportLength input out) × (last ≡ reportBytes input out)
+    unfolding reportLength reportBytes
+    reported h {text} e w p =
+        let t = sym (le-leb mostShown (length out) h) in (
+          sym w ∙ ap length (sym e) ∙ ap lengthIf t,
+          p ∙ placed-front out text ∙ ap (λ (l : List ℕ). l ++ drop (length l) out) (sym e) ∙ ap bytesIf t,
+        )

@@ -1,0 +1,46 @@
+-- What the program `card` prints for the bytes that it reads, and how it gets into a lent buffer.
+-- Assumes nothing.
+use Prim.Native.Nat.{ℕ}
+use mathlib.Core.Bool.{cond}
+use mathlib.Core.List.{List, [], _∷_, _++_}
+use lib.Dec.{leb, eqb}
+use lib.IntN.{pos}
+use lib.ListN.{length, take, drop}
+use Rattle.columns.specs.Column.{column}
+use Rattle.curve.specs.declared.Curve.{Curve}
+use Rattle.curve.specs.declared.Refusal.{Refusal}
+use Rattle.curve.specs.Calls.{bounded, evaluated}
+use Rattle.card_text.specs.Card.{newline, row}
+use Rattle.card_text.specs.Reading.{readCard}
+
+-- the most bytes that are taken as a card
+abbrev pub mostBytes : ℕ
+mostBytes = 4096
+
+-- the lines of a curve: the bounds (the paper's span), and the load at 1/2
+unfoldable pub curveLines : Curve → List ℕ
+curveLines c = row (bounded c .rect) ++ row (evaluated c 1 2 .load)
+
+-- the line of a refusal: number and place
+unfoldable pub refusalLine : Refusal → List ℕ
+refusalLine r = column (pos (r .number)) ++ column (pos (r .place)) ++ (newline ∷ [])
+
+-- what is printed for an input
+unfoldable pub shown : List ℕ → List ℕ
+shown input =
+    let read = readCard (take mostBytes input) in
+    cond (eqb (read .refusal .number) 0) (curveLines (read .curve)) (refusalLine (read .refusal))
+
+-- ---- the call
+
+-- the bytes of two lines of rectangles, which are the longest report
+abbrev pub mostShown : ℕ
+mostShown = 82
+
+-- how many bytes are written: none into a buffer that might be too short
+unfoldable pub reportLength : List ℕ → List ℕ → ℕ
+reportLength input out = cond (leb mostShown (length out)) (length (shown input)) 0
+
+-- the buffer: the report in front and the later bytes kept, or all kept
+unfoldable pub reportBytes : List ℕ → List ℕ → List ℕ
+reportBytes input out = cond (leb mostShown (length out)) (shown input ++ drop (length (shown input)) out) out

@@ -1,0 +1,52 @@
+// What the program `card` prints: the bounds and the load at 1/2 of a card's curve, or a card's refusal.
+ghost use mathlib.Core.Path.{_≡_};
+ghost use lib.ListN.{take};
+ghost use Rattle.card_report.specs.Report.{mostBytes, reportLength, reportBytes};
+
+mod lines;
+
+use card_text::read_card;
+use curve::bounds;
+use curve::evaluate;
+use lines::put_rect;
+use lines::put_refusal;
+
+// The most bytes that are taken as a card.
+pub const MOST_BYTES: usize = 4096;
+
+// The bytes of a rectangle's line, of two, and of a refusal's line.
+const LINE_LENGTH: usize = 41;
+
+const LINES_LENGTH: usize = 82;
+
+const REFUSAL_LENGTH: usize = 21;
+
+// The bytes of an input that are taken as the card.
+fn card_of(input: &[u8]) -> &[u8]
+    ensures { λ r. ⌜ now r ≡ take mostBytes (now (input .entry)) ⌝ }
+{
+    if MOST_BYTES < input.len() {
+        return &input[..MOST_BYTES];
+    }
+    input
+}
+
+// Writes what is printed for an input to the front of a buffer and answers its length. A buffer of fewer than 82 bytes is left alone, with the answer 0.
+pub fn report(input: &[u8], out: &mut [u8]) -> usize
+    ensures { λ r. ⌜ (r ≡ reportLength (now (input .entry)) (now (out .entry))) × (now (out .exit) ≡ reportBytes (now (input .entry)) (now (out .entry))) ⌝ }
+{
+    if out.len() < LINES_LENGTH {
+        return 0;
+    }
+    let read = read_card(card_of(input));
+    let refusal = read.refusal;
+    if refusal.number != 0 {
+        put_refusal(out, refusal);
+        return REFUSAL_LENGTH;
+    }
+    let enclosure = bounds(read.curve);
+    let reading = evaluate(read.curve, 1, 2);
+    put_rect(out, 0, enclosure.rect);
+    put_rect(out, LINE_LENGTH, reading.load);
+    LINES_LENGTH
+}

@@ -1,0 +1,44 @@
+-- What is promised of cards beside the two calls' equations, over the definitions that their contracts cite.
+-- Assumes nothing.
+use mathlib.Core.Path.{_≡_}
+use mathlib.Core.List.{List}
+use Prim.Native.Nat.{ℕ, _≤_, _<_}
+use lib.ListN.{length, take}
+use Rattle.curve.specs.declared.Curve.{Curve}
+use Rattle.curve.specs.Rect.{zeroRect}
+use Rattle.curve.specs.Curve.{point, curveOf, SameCurve}
+use Rattle.curve.specs.Refusals.{none, Accepted}
+use Rattle.card_text.specs.Card.{cardOf, cardLength}
+use Rattle.card_text.specs.Reading.{readCard}
+use Rattle.card_text.specs.Writing.{writeCard, bytesAfter}
+
+-- a card has exactly 11 + 41 × (n + 1) bytes, so 93 to 380
+abbrev pub CardLength : Type 0
+CardLength =
+    (c : Curve) → Accepted c →
+    (length (cardOf c) ≡ cardLength (c .degree)) × (93 ≤ length (cardOf c)) × (length (cardOf c) ≤ 380)
+
+-- the bytes that the writer says it wrote are read, without a refusal, as the curve, with zero past its degree
+pub record ReadBack (c : Curve) (out : List ℕ) : Type 0 where
+  pub size : writeCard c out .length ≡ cardLength (c .degree)
+  pub answer : readCard (take (writeCard c out .length) (bytesAfter c out)) ≡ record { refusal = none; curve = curveOf (c .degree) (point c) }
+  pub same : SameCurve c (curveOf (c .degree) (point c))
+
+abbrev pub WrittenReads : Type 0
+WrittenReads = (c : Curve) (out : List ℕ) → Accepted c → cardLength (c .degree) ≤ length out → ReadBack c out
+
+-- a card that is read is the card of its curve, so writing the curve gives the same bytes again
+pub record WrittenBack (bytes : List ℕ) : Type 0 where
+  pub accepted : Accepted (readCard bytes .curve)
+  pub exactly : cardOf (readCard bytes .curve) ≡ bytes
+  pub again : (out : List ℕ) → length bytes ≤ length out → take (length bytes) (bytesAfter (readCard bytes .curve) out) ≡ bytes
+
+abbrev pub ReadIsWritten : Type 0
+ReadIsWritten = (bytes : List ℕ) → readCard bytes .refusal .number ≡ 0 → WrittenBack bytes
+
+-- nothing past the degree is written, and what is read has zero there
+abbrev pub PastUnwritten : Type 0
+PastUnwritten = (c e : Curve) (out : List ℕ) → SameCurve c e → (writeCard c out ≡ writeCard e out) × (bytesAfter c out ≡ bytesAfter e out)
+
+abbrev pub ReadZeroPast : Type 0
+ReadZeroPast = (bytes : List ℕ) (k : ℕ) → readCard bytes .curve .degree < k → point (readCard bytes .curve) k ≡ zeroRect

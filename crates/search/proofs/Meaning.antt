@@ -1,0 +1,170 @@
+-- What Inside and Outside mean for every ordinary curve inside the rectangles.
+-- Assumes nothing.
+use mathlib.Core.Path.{_≡_, refl, sym, ap, _∙_, subst}
+use mathlib.Core.Bool.{Bool, true, false, _||_, false≢true}
+use mathlib.Core.Logic.{_⊎_, inl, inr, ⊎-elim}
+use Prim.Native.Nat.{ℕ, _+_, _*_, _^_}
+use native.Mathlib.Numerals.{add-one}
+use native.Mathlib.Omega.{arith}
+use borrow.Author.Tests.{eqb-false}
+use lib.Dec.{T}
+use lib.IntN.{ℤ, pos, _*ℤ_}
+use lib.Signed.{leZ, ltZ, _≤ℤ_, leZ-yes, ltZ-yes, clashℤ}
+use Rattle.rational.specs.Rounding.{Rounding, down, up}
+use Rattle.rational.specs.Fraction.{Frac, whole, _≤ᶠ_}
+use Rattle.rational.proofs.Order.{≤ℤ-total}
+use Rattle.rational.proofs.Rational.{rat, embed}
+use Rattle.rational.proofs.RationalOrder.{_≤ℚ_, ≤ℚ-trans, ≤ℚ-of, embed-reflects}
+use Rattle.curve.specs.declared.Interval.{Interval}
+use Rattle.curve.specs.declared.Rect.{Rect}
+use Rattle.curve.specs.declared.Curve.{Curve}
+use Rattle.curve.specs.Rect.{Coordinate, resistance, reactance, end, along, side, Outward, Inside}
+use Rattle.curve.specs.Calls.{bounded}
+use Rattle.curve.specs.Refusals.{Accepted}
+use Rattle.curve.proofs.Accepted.{both}
+use Rattle.ledger.specs.Ordinary.{Ordinary, InsideOf, loadAt}
+use Rattle.ledger.specs.Ledger.{parameter}
+use Rattle.search.specs.declared.Verdict.{Verdict}
+use Rattle.search.specs.declared.Verdict.the-variants.{Refused, Inside as InsideV, Outside, Spent, Undecided}
+use Rattle.search.specs.Verdict.{reported, inside, outside}
+use Rattle.search.specs.Box.{within, disjoint, inBox, apartFrom}
+use Rattle.search.specs.Walk.{goesOn, looked, noted}
+use Rattle.search.specs.Pieces.{pieceAt}
+use Rattle.search.specs.Promises.{answered, LoadIn, Between, InsideMeans, OutsideMeans}
+use Rattle.search.proofs.Steps.{Going, clear, marked, Rules, walk-keeps}
+use Rattle.search.proofs.Accepted.{by-answer}
+use Rattle.search.proofs.Named.{Place, whole-place, place-half, outside-names}
+use Rattle.search.proofs.Dyadic.{dyadic, parameter-dyadic, dyadic-whole, dyadic-left, dyadic-end, along as point-along}
+use Rattle.search.proofs.Laid.{Laid, laid}
+use Rattle.search.proofs.Loads.{load-outward, load-in-span}
+
+-- ---- boxes
+
+-- a span in the box lies inside it, side by side
+within-ends : (i j : Interval) → T (within i j) → (r : Rounding) → Outward r (end r i) (end r j)
+unfolding within
+within-ends i j t down = leZ-yes (both (leZ (j .low) (i .low)) (leZ (i .high) (j .high)) t .0)
+within-ends i j t up = leZ-yes (both (leZ (j .low) (i .low)) (leZ (i .high) (j .high)) t .1)
+
+box-sides : (p q : Rect) → T (inBox p q) → (x : Coordinate) (r : Rounding) → Outward r (side x r p) (side x r q)
+unfolding inBox
+box-sides p q t resistance = within-ends (p .resistance) (q .resistance) (both (within (p .resistance) (q .resistance)) (within (p .reactance) (q .reactance)) t .0)
+box-sides p q t reactance = within-ends (p .reactance) (q .reactance) (both (within (p .resistance) (q .resistance)) (within (p .reactance) (q .reactance)) t .1)
+
+box-inside : (p q : Rect) → inBox p q ≡ true → Inside p q
+box-inside p q e = record { at = box-sides p q (subst T (sym e) tt) }
+
+-- a value at least one number and at most another
+crossed : (v : Frac) (a b : ℤ) → whole a ≤ᶠ v → v ≤ᶠ whole b → a ≤ℤ b
+unfolding embed
+crossed v a b h k = embed-reflects a b (≤ℚ-trans (≤ℚ-of h) (≤ℚ-of k))
+
+either : (a b : Bool) → T (a || b) → T a ⊎ T b
+either true b t = inl tt
+either false b t = inr t
+
+disjoint-clash : (i j : Interval) → T (disjoint i j) → (v : Frac) → whole (i .low) ≤ᶠ v → v ≤ᶠ whole (i .high) → whole (j .low) ≤ᶠ v → v ≤ᶠ whole (j .high) → ⊥
+unfolding disjoint
+disjoint-clash i j t v a b c d =
+    ⊎-elim (λ l. clashℤ (ltZ-yes l) (crossed v (j .low) (i .high) c b)) (λ l. clashℤ (ltZ-yes l) (crossed v (i .low) (j .high) a d))
+    (either (ltZ (i .high) (j .low)) (ltZ (j .high) (i .low)) t)
+
+-- no load lies in two rectangles that are apart
+apart-clash : (o : Ordinary) (t : Frac) (p q : Rect) → apartFrom p q ≡ true → LoadIn o p t → LoadIn o q t → ⊥
+unfolding apartFrom
+apart-clash o t p q e l k =
+    ⊎-elim (λ h. at resistance h) (λ h. at reactance h) (either (disjoint (p .resistance) (q .resistance)) (disjoint (p .reactance) (q .reactance)) (subst T (sym e) tt))
+  where
+    at : (x : Coordinate) → T (disjoint (along x p) (along x q)) → ⊥
+    at x h = disjoint-clash (along x p) (along x q) h (loadAt o x t) (l .at x down) (l .at x up) (k .at x down) (k .at x up)
+
+-- ---- verdicts
+
+inside-on : (v : Verdict) → reported v .number ≡ inside → goesOn v ≡ true
+inside-on Refused e = absurd (eqb-false 0 1 refl e)
+inside-on (InsideV n) e = refl
+inside-on (Outside d i n) e = absurd (eqb-false 2 1 refl e)
+inside-on (Spent n) e = absurd (eqb-false 3 1 refl e)
+inside-on (Undecided d i n) e = refl
+
+looked-inside : {v : Verdict} → Going v → reported (looked v) .number ≡ inside → reported v .number ≡ inside
+looked-inside clear e = refl
+looked-inside marked e = e
+
+noted-inside : (d i : ℕ) {v : Verdict} → Going v → reported (noted d i (looked v)) .number ≡ inside → ⊥
+noted-inside d i clear e = eqb-false 4 1 refl e
+noted-inside d i marked e = eqb-false 4 1 refl e
+
+-- ---- loads on the stretch of a piece
+
+total : (a b : Frac) → (a ≤ᶠ b) ⊎ (b ≤ᶠ a)
+total a b = elim (≤ℤ-total (a .upper *ℤ pos (b .lower)) (b .upper *ℤ pos (a .lower))) [ inl h ↦ inl (record { crosswise = h }) | inr h ↦ inr (record { crosswise = h }) ]
+
+module _ (c : Curve) (accepted : Accepted c) (box : Rect) (o : Ordinary) (within-rectangles : InsideOf o c) where
+  -- every load on the stretch of piece i of depth d lies in a rectangle
+  Loads : ℕ → ℕ → Rect → Type 0
+  Loads d i p = (t : Frac) → dyadic d i ≤ℚ rat t → rat t ≤ℚ dyadic d (i + 1) → LoadIn o p t
+
+  span-loads : (d i : ℕ) (piece : Curve) → Place c box d i piece → Loads d i (bounded piece .rect)
+  unfolding Loads
+  span-loads d i piece p t low high =
+      let here = subst (Laid c d i) (sym (p .is)) (laid c accepted d i (p .numbered)) in
+      load-in-span c d i piece here o within-rectangles t (point-along d i (rat t) low high)
+
+  -- both halves make the whole
+  halves-loads : (d i : ℕ) (p : Rect) → Loads (d + 1) (i * 2) p → Loads (d + 1) (i * 2 + 1) p → Loads d i p
+  unfolding Loads
+  halves-loads d i p left right t low high =
+      let middle = parameter (i * 2 + 1) (2 ^ (d + 1)) in
+      let deeper = sym (add-one d) in
+      elim (total t middle) [
+        | inl h ↦ left t (subst (λ x. x ≤ℚ rat t) (dyadic-left d i ∙ ap (λ (n : ℕ). dyadic n (i * 2)) deeper) low)
+            (subst (λ x. rat t ≤ℚ x) (parameter-dyadic (d + 1) (i * 2 + 1)) (≤ℚ-of h))
+        | inr h ↦ right t (subst (λ x. x ≤ℚ rat t) (parameter-dyadic (d + 1) (i * 2 + 1)) (≤ℚ-of h))
+            (subst (λ x. rat t ≤ℚ x) (dyadic-end d i ∙ ap (λ (n : ℕ). dyadic n (i * 2 + 1 + 1)) deeper) high)
+      ]
+
+  inside-rules : (budget : ℕ) → Rules box budget (λ m piece d i v u. Place c box d i piece → reported u .number ≡ inside → (reported v .number ≡ inside) × Loads d i box)
+  unfolding Loads
+  inside-rules budget = record {
+    ended = λ m piece d i v e p h. absurd (false≢true (sym e ∙ inside-on v h));
+    exhausted = λ m piece d i v g f p h. absurd (eqb-false 3 1 refl h);
+    contained = λ m piece d i v l w p h. (
+      looked-inside (l .going) h,
+      λ t low high. load-outward o t (bounded piece .rect) box (span-loads d i piece p t low high) (box-inside (bounded piece .rect) box (w .contained)),
+    );
+    apart = λ m piece d i v l f p h. absurd (eqb-false 2 1 refl h);
+    limit = λ piece d i v l f p h. absurd (noted-inside d i (l .going) h);
+    halves = λ m piece d i v l f w u e g left right p h.
+        let (left-inside, right-loads) = right (place-half c box d i piece p f (i * 2 + 1) 1 (omega arith) (omega arith)) h in
+        let (whole-inside, left-loads) = left (place-half c box d i piece p f (i * 2) 0 (omega arith) (omega arith)) left-inside in
+        (looked-inside (l .going) whole-inside, halves-loads d i box left-loads right-loads);
+  }
+
+-- ---- the promises
+
+pub inside-means : InsideMeans
+unfolding Loads embed
+inside-means c box depth budget =
+    by-answer c box depth budget (λ v. reported v .number ≡ inside → (o : Ordinary) → InsideOf o c → (t : Frac) → Between (whole (pos 0)) (whole (pos 1)) t → LoadIn o box t)
+    (λ e. absurd (eqb-false 0 1 refl e))
+    (λ f e o within-rectangles t b.
+    walk-keeps box budget
+    (λ m piece d i v u. Place c box d i piece → reported u .number ≡ inside → (reported v .number ≡ inside) × Loads c (f .accepted) box o within-rectangles d i box)
+    (inside-rules c (f .accepted) box o within-rectangles budget) depth c 0 0 (InsideV 0) (whole-place c box) e .1 t
+    (subst (λ x. x ≤ℚ rat t) (dyadic-whole 0) (≤ℚ-of (b .from))) (subst (λ x. rat t ≤ℚ x) (dyadic-whole 1) (≤ℚ-of (b .to))))
+
+-- an answer Outside is of an accepted curve
+outside-accepted : (c : Curve) (box : Rect) (depth budget : ℕ) → answered c box depth budget .number ≡ outside → Accepted c
+outside-accepted c box depth budget =
+    by-answer c box depth budget (λ v. reported v .number ≡ outside → Accepted c) (λ e. absurd (eqb-false 0 2 refl e)) (λ f e. f .accepted)
+
+pub outside-means : OutsideMeans
+outside-means c box depth budget e o within-rectangles t b l =
+    let found = outside-names c box depth budget e in
+    let d = answered c box depth budget .depth in
+    let i = answered c box depth budget .index in
+    apart-clash o t (bounded (pieceAt c d i) .rect) box (found .apart)
+    (load-in-span c d i (pieceAt c d i) (laid c (outside-accepted c box depth budget e) d i (found .numbered)) o within-rectangles t
+    (point-along d i (rat t) (subst (λ x. x ≤ℚ rat t) (parameter-dyadic d i) (≤ℚ-of (b .from))) (subst (λ x. rat t ≤ℚ x) (parameter-dyadic d (i + 1)) (≤ℚ-of (b .to)))))
+    l
