@@ -9,3 +9,5 @@ pub mod Results
 pub mod Cards
 pub mod Effects
 pub mod Progress
+pub mod Window
+pub mod LedgerKept

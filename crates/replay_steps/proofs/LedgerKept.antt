@@ -1,0 +1,106 @@
+-- Along every list of calls the case has the curve that the calls leave and the ledger's sum.
+-- Assumes nothing.
+use mathlib.Core.Path.{_≡_, refl, sym, ap, subst, _∙_}
+use mathlib.Core.Bool.{Bool, true, false, cond}
+use mathlib.Core.List.{List, [], _∷_}
+use Prim.Native.Nat.{ℕ, _+_, min}
+use native.Mathlib.Omega.{arith}
+use borrow.Author.Tests.{eq-eqb}
+use lib.Dec.{eqb}
+use lib.IntN.{ℤ, pos}
+use Rattle.curve.specs.declared.Curve.{Curve}
+use Rattle.curve.specs.declared.Refusal.{Refusal}
+use Rattle.curve.specs.declared.Evaluation.{Evaluation}
+use Rattle.curve.specs.Refusals.{Accepted, AcceptedAt}
+use Rattle.curve.specs.Calls.{evaluated, subdivided, elevated}
+use Rattle.curve.proofs.Answers.{evaluated-accepted}
+use Rattle.ledger.specs.Ledger.{Ledger, Call, reading, cut, raising, left, right, opened, refused, entered, after, refusalOf, answerOf, leaves}
+use Rattle.ledger.proofs.Demand.{Kept, opened-kept, same-refusal, after-kept}
+use Rattle.replay_steps.specs.declared.Case.{Case}
+use Rattle.replay_steps.specs.Line.{largest, added, capped}
+use Rattle.replay_steps.specs.Answer.{sidesThen, refusing, evaluation, subdivision, elevation}
+use Rattle.replay_steps.specs.Promises.{answerTo, caseAfter, curveAfter, ledgerAfter, Follows, KeepsLedger}
+
+-- the sum after an accepted call
+abbrev grown : Case → Call → ℕ
+grown s (reading num den) = s .sum
+grown s (cut num den piece) = added (s .sum) (s .curve .degree)
+grown s raising = added (s .sum) 1
+
+-- the case after an accepted call, and after any
+abbrev accepted : Case → Call → Case
+accepted s call = record { curve = answerOf (s .curve) call; sum = grown s call }
+
+abbrev isAccepted : Curve → Call → Bool
+isAccepted c call = eqb (refusalOf c call .number) 0
+
+by-refusal : (b : Bool) (s : Case) (r : Refusal) (next : Case) (results : List ℤ) →
+    cond b (record { case = next; numbers = pos 0 ∷ results }) (refusing s r) .case ≡ cond b next s
+by-refusal true s r next results = refl
+by-refusal false s r next results = refl
+
+case-of : (s : Case) (call : Call) → answerTo s call .case ≡ cond (isAccepted (s .curve) call) (accepted s call) s
+unfolding evaluation subdivision elevation
+case-of s (reading num den) = by-refusal (isAccepted (s .curve) (reading num den)) s _ s _
+case-of s (cut num den left) = by-refusal (isAccepted (s .curve) (cut num den left)) s _ (accepted s (cut num den left)) _
+case-of s (cut num den right) = by-refusal (isAccepted (s .curve) (cut num den right)) s _ (accepted s (cut num den right)) _
+case-of s raising = by-refusal (isAccepted (s .curve) raising) s _ (accepted s raising) _
+
+-- the curve is what the call leaves
+curve-of : (s : Case) (call : Call) → answerTo s call .case .curve ≡ leaves (s .curve) call
+unfolding leaves
+curve-of s call = ap (λ (x : Case). x .curve) (case-of s call) ∙ go (isAccepted (s .curve) call)
+  where
+    go : (b : Bool) → cond b (accepted s call) s .curve ≡ cond b (answerOf (s .curve) call) (s .curve)
+    go true = refl
+    go false = refl
+
+-- the sum is the ledger's
+module _ (s : Case) (l : Ledger) (degrees : s .curve .degree ≡ l .degree) (sums : s .sum ≡ min (l .sum) largest) where
+  grown-sum : (call : Call) → grown s call ≡ min (entered l call .sum) largest
+  grown-sum (reading num den) = sums
+  grown-sum (cut num den left) = omega arith
+  grown-sum (cut num den right) = omega arith
+  grown-sum raising = omega arith
+
+  sum-of : (call : Call) → refusalOf (s .curve) call ≡ refused l call → answerTo s call .case .sum ≡ min (after l call .sum) largest
+  unfolding after
+  sum-of call same =
+      ap (λ (x : Case). x .sum) (case-of s call)
+      ∙ ap (λ (r : Refusal). cond (eqb (r .number) 0) (accepted s call) s .sum) same
+      ∙ go (eqb (refused l call .number) 0)
+    where
+      go : (b : Bool) → cond b (accepted s call) s .sum ≡ min (cond b (entered l call) l .sum) largest
+      go true = grown-sum call
+      go false = sums
+
+-- ---- along a list
+
+-- the number shown is the sum with the degree
+shows : (c : Curve) (l : Ledger) (s : Case) → Kept c l (s .curve) → s .sum ≡ min (l .sum) largest → (num den : ℕ) → AcceptedAt num den →
+    evaluation s num den .numbers ≡ pos 0 ∷ sidesThen (evaluated (s .curve) num den .load) (capped (l .sum + l .degree) ∷ [])
+unfolding evaluation
+shows c l s kept sums num den at =
+    let none : evaluated (s .curve) num den .refusal .number ≡ 0 = ap (λ (e : Evaluation). e .refusal .number) (evaluated-accepted (s .curve) num den (kept .accepted) at) in
+    let degrees = kept .degrees in
+    let same : min (s .sum + s .curve .degree) largest ≡ min (l .sum + l .degree) largest = omega arith in
+    rw (eq-eqb (evaluated (s .curve) num den .refusal .number) 0 none, same)
+
+follows : (c : Curve) (calls : List Call) (now : Curve) (l : Ledger) (s : Case) → Kept c l now → s .curve ≡ now → s .sum ≡ min (l .sum) largest →
+    Follows (curveAfter now calls) (ledgerAfter l calls) (caseAfter s calls)
+unfolding curveAfter ledgerAfter caseAfter
+follows c [] now l s kept e sums =
+    record {
+      curve = e;
+      sum = sums;
+      shown = subst (λ (x : Curve). (num den : ℕ) → AcceptedAt num den → evaluation s num den .numbers ≡ pos 0 ∷ sidesThen (evaluated x num den .load) (capped (l .sum + l .degree) ∷ [])) e
+          (shows c l s (subst (Kept c l) (sym e) kept) sums);
+    }
+follows c (call ∷ calls) now l s kept e sums =
+    let here : Kept c l (s .curve) = subst (Kept c l) (sym e) kept in
+    follows c calls (leaves now call) (after l call) (answerTo s call .case) (after-kept c l now kept call)
+    (curve-of s call ∙ ap (λ (x : Curve). leaves x call) e) (sum-of s l (here .degrees) sums call (same-refusal c l (s .curve) here call))
+
+pub keeps-ledger : KeepsLedger
+unfolding opened
+keeps-ledger c a calls = follows c calls c (opened c) (record { curve = c; sum = 0 }) (opened-kept c a) refl (omega arith)
