@@ -8,10 +8,9 @@ use lib.IntN.{ℤ, pos}
 use Rattle.curve.specs.declared.Curve.{Curve}
 use Rattle.curve.specs.declared.Rect.{Rect}
 use Rattle.curve.specs.declared.Refusal.{Refusal}
-use Rattle.curve.specs.declared.Subdivision.{Subdivision}
 use Rattle.curve.specs.Curve.{point}
 use Rattle.curve.specs.Calls.{evaluated, subdivided, elevated, bounded}
-use Rattle.search.specs.Verdict.{Report, reported}
+use Rattle.search.specs.Verdict.{reported}
 use Rattle.search.specs.Search.{searched}
 use Rattle.ledger.specs.Ledger.{Piece, left, right, kept}
 use Rattle.replay_steps.specs.declared.Case.{Case}

@@ -2,22 +2,7 @@
 ghost use mathlib.Core.Path.{_≡_};
 ghost use Prim.Native.Nat.{_≤_};
 ghost use lib.ListN.{length};
-ghost use Rattle.replay_steps.specs.Step.{
-  started,
-  idle,
-  stopping,
-  passing,
-  cardSize,
-  cardAt,
-  isWhole,
-  openingBy,
-  cardStep,
-  callStep,
-  lineRoom,
-  effect,
-  stepped,
-  written,
-};
+ghost use Rattle.replay_steps.specs.Step.{started, idle, stopping, cardSize, cardAt, isWhole, openingBy, cardStep, callStep, lineRoom, effect, stepped, written};
 ghost use Rattle.replay_steps.specs.Inner.{passedBy, Replied, Wrote};
 
 mod answers;

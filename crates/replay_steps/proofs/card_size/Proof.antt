@@ -1,6 +1,5 @@
 -- `card_size` meets its contract, by whether there is a degree.
 -- Assumes nothing.
-use mathlib.Core.Path.{_≡_}
 use borrow.Author.Tests.{le-leb, lt-leb}
 use Rattle.replay_steps.specs.Step.{cardSize}
 use borrow.Author.Needs.{needs}

@@ -1,8 +1,8 @@
 -- `elevation` meets its contract: a refusal, or the raised curve behind a 0 and its degree.
 -- Assumes nothing.
-use mathlib.Core.Path.{_≡_, refl, sym, ap, ap₂, subst, _∙_}
+use mathlib.Core.Path.{_≡_, sym, ap, ap₂, subst, _∙_}
 use mathlib.Core.List.{List, [], _∷_}
-use Prim.Native.Nat.{ℕ, _+_, _*_, _≤_, _<_}
+use Prim.Native.Nat.{ℕ, _+_, _*_, _≤_}
 use native.Mathlib.Omega.{arith}
 use lib.IntN.{ℤ, pos}
 use lib.ListN.{length}
@@ -10,10 +10,7 @@ use Rattle.curve.specs.declared.Curve.{Curve}
 use Rattle.curve.specs.declared.Elevation.{Elevation}
 use Rattle.curve.specs.Curve.{point}
 use Rattle.curve.specs.Refusals.{Accepted}
-use Rattle.curve.specs.Calls.{elevated}
-use Rattle.card_text.specs.Card.{newline}
 use Rattle.card_text.specs.Inner.{placed}
-use Rattle.replay_steps.specs.declared.Case.{Case}
 use Rattle.replay_steps.specs.Line.{columns, line}
 use Rattle.replay_steps.specs.Answer.{sidesOf, elevation}
 use Rattle.replay_steps.specs.Inner.{Fitting}

@@ -1,6 +1,6 @@
 -- `report_of` meets its contract: each arm is a case of the definition.
 -- Assumes nothing.
-use mathlib.Core.Path.{_≡_, sym, ap, _∙_}
+use mathlib.Core.Path.{sym, ap}
 use Rattle.replay_steps.specs.Inner.{reportOf}
 use borrow.Author.Needs.{needs}
 use Rattle.replay_steps.proofs.answers.report_of.Statement.{statement}
