@@ -8,6 +8,7 @@ use lib.IntN.{ℤ, pos}
 use lib.ListN.{length}
 use Rattle.curve.specs.declared.Curve.{Curve}
 use Rattle.curve.specs.declared.Elevation.{Elevation}
+use Rattle.curve.specs.Limits.{maxDegree}
 use Rattle.curve.specs.Curve.{point}
 use Rattle.curve.specs.Refusals.{Accepted}
 use Rattle.card_text.specs.Inner.{placed}
@@ -55,7 +56,7 @@ accepted x =
     let e = x .before .before .before .elevate .ensures in
     subst (λ (y : Elevation). Accepted (y .curve)) (sym e) (elevated-good (start x .args .case .curve) (subst (λ (y : Elevation). y .refusal .number ≡ 0) e (x .if1 .left)))
 
-few : (x : tie.Else1) → raised x .degree ≤ 8
+few : (x : tie.Else1) → raised x .degree ≤ maxDegree
 few x = curve-few (raised x) (accepted x)
 
 write-head-requires : tie.Need-write-head-requires
