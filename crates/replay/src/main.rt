@@ -11,6 +11,9 @@ use replay_steps::Status;
 use replay_steps::WINDOW;
 use replay_steps::step;
 
+// The bytes of each buffer.
+const BUFFER_LENGTH: usize = 65536;
+
 // The session after a window of the input, how many of its bytes were taken, and whether the run goes on.
 struct Pass {
     session: Session,
@@ -90,6 +93,7 @@ fn to_front(buffer: &mut [u8], from: usize, end: usize) -> usize
     k
 }
 
+// Fills the input buffer, takes what is whole, and moves the rest to the front, until the input or the run ends.
 fn main() {
     let mut input = io::large_buffer();
     let mut output = io::large_buffer();
@@ -98,7 +102,7 @@ fn main() {
     let mut turns = u64::MAX;
     while 0 < turns {
         let end = kept + io::read_full(0, &mut input[kept..]);
-        let pass = run_window(session, &input[..end], end < 65536, &mut output);
+        let pass = run_window(session, &input[..end], end < BUFFER_LENGTH, &mut output);
         if !pass.more {
             return;
         }

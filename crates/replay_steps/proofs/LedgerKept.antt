@@ -11,8 +11,8 @@ use lib.IntN.{ℤ, pos}
 use Rattle.curve.specs.declared.Curve.{Curve}
 use Rattle.curve.specs.declared.Refusal.{Refusal}
 use Rattle.curve.specs.declared.Evaluation.{Evaluation}
-use Rattle.curve.specs.Refusals.{Accepted, AcceptedAt}
-use Rattle.curve.specs.Calls.{evaluated, subdivided, elevated}
+use Rattle.curve.specs.Refusals.{AcceptedAt}
+use Rattle.curve.specs.Calls.{evaluated}
 use Rattle.curve.proofs.Answers.{evaluated-accepted}
 use Rattle.ledger.specs.Ledger.{Ledger, Call, reading, cut, raising, left, right, opened, refused, entered, after, refusalOf, answerOf, leaves}
 use Rattle.ledger.proofs.Demand.{Kept, opened-kept, same-refusal, after-kept}

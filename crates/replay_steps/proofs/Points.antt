@@ -1,7 +1,7 @@
 -- Laws of a curve's rectangles as numbers: how many they are, that they fit, and one rectangle more.
 -- Assumes nothing.
 use mathlib.Core.Path.{_≡_, refl, ap, _∙_}
-use mathlib.Core.List.{List, [], _∷_, _++_}
+use mathlib.Core.List.{[], _∷_, _++_}
 use Prim.Native.Nat.{ℕ, zero, suc, _+_, _*_, _≤_, _<_}
 use native.Mathlib.Numerals.{add-one}
 use native.Mathlib.Omega.{arith}
@@ -9,6 +9,7 @@ use lib.IntN.{pos}
 use lib.ListN.{length, length-append}
 use Rattle.curve.specs.declared.Curve.{Curve}
 use Rattle.curve.specs.declared.Rect.{Rect}
+use Rattle.curve.specs.Limits.{maxDegree}
 use Rattle.curve.specs.Curve.{point}
 use Rattle.curve.specs.Refusals.{Accepted}
 use Rattle.curve.specs.Inner.{Held}
@@ -42,7 +43,7 @@ module _ (c : Curve) (accepted : Accepted c) where
   pub curve-held : (k : ℕ) → k < c .degree + 1 → Held (point c k)
   curve-held k h = accepted-ready c accepted .held k (omega arith)
 
-  pub curve-few : c .degree ≤ 8
+  pub curve-few : c .degree ≤ maxDegree
   curve-few = accepted-ready c accepted .few
 
   pub curve-fits : Fitting (sidesOf c)

@@ -1,17 +1,14 @@
 -- Laws of the numbers in a call line: a range by its two tests, and a number in range in its machine type.
 -- Assumes nothing.
-use mathlib.Core.Path.{_≡_, ap, ap₂, sym, _∙_}
-use mathlib.Core.Bool.{Bool, true, false, _&&_, cond, false≢true}
-use Prim.Native.Nat.{ℕ, _^_, _<_}
+use mathlib.Core.Path.{_≡_, ap, ap₂}
+use mathlib.Core.Bool.{Bool, true, false, _&&_, false≢true}
 use native.Mathlib.Omega.{arith}
 use lib.Dec.{T}
 use lib.IntN.{ℤ, pos, negsuc, natAbs}
-use lib.Signed.{leZ, nonNeg, mag}
+use lib.Signed.{leZ, nonNeg}
 use borrow.Author.Tests.{leb-true}
 use mir.Syntax.{w32}
 use mir.Val.{Fits, SFits}
-use Rattle.replay_steps.specs.declared.fields.Word.{Word}
-use Rattle.replay_steps.specs.declared.fields.Side.{Side}
 use Rattle.replay_steps.specs.Request.{between, noWord, wordOf, noSide, sideOf}
 
 -- ---- a range by its two tests

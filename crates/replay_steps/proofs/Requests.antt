@@ -1,10 +1,9 @@
 -- Laws of a call line's request: by whether its first column is a number, and by which one.
 -- Assumes nothing.
-use mathlib.Core.Path.{_≡_, ap, sym, _∙_}
-use mathlib.Core.Bool.{true, false, cond}
+use mathlib.Core.Path.{_≡_}
+use mathlib.Core.Bool.{true, false}
 use mathlib.Core.List.{List}
 use Prim.Native.Nat.{ℕ}
-use lib.Dec.{eqb}
 use borrow.Author.Tests.{ne-eqb}
 use Rattle.replay_steps.specs.declared.fields.Word.{Word}
 use Rattle.replay_steps.specs.declared.request.Request.the-variants.{Invalid}

@@ -1,10 +1,9 @@
 -- What is known of the results of a call that is not refused: rectangles have their sides in range, and curves are accepted.
 -- Assumes nothing.
 use mathlib.Core.Path.{_≡_, sym, ap, subst, _∙_}
-use Prim.Native.Nat.{ℕ, _+_, _≤_, _<_}
+use Prim.Native.Nat.{ℕ}
 use native.Mathlib.Omega.{arith}
-use lib.IntN.{ℤ, pos, negℤ}
-use lib.Signed.{_≤ℤ_}
+use lib.IntN.{pos, negℤ}
 use Rattle.rational.specs.Rounding.{Rounding, down, up}
 use Rattle.rational.proofs.Order.{≤ℤ-trans}
 use Rattle.curve.specs.declared.Curve.{Curve}
@@ -12,14 +11,13 @@ use Rattle.curve.specs.declared.Rect.{Rect}
 use Rattle.curve.specs.declared.Interval.{Interval}
 use Rattle.curve.specs.declared.Refusal.{Refusal}
 use Rattle.curve.specs.declared.Evaluation.{Evaluation}
-use Rattle.curve.specs.Limits.{maxSide, maxDegree}
+use Rattle.curve.specs.Limits.{maxSide}
 use Rattle.curve.specs.Rect.{Coordinate, resistance, reactance, side, Inside, Outward}
-use Rattle.curve.specs.Curve.{point}
-use Rattle.curve.specs.Refusals.{Accepted, AcceptedAt}
+use Rattle.curve.specs.Refusals.{Accepted}
 use Rattle.curve.specs.Calls.{evaluated, subdivided, elevated, bounded}
 use Rattle.curve.specs.Inner.{Side, Held}
 use Rattle.curve.specs.Promises.{Pieces}
-use Rattle.curve.proofs.Accepted.{Facts, accepted-facts, number-accepted, call-accepted, elevation-accepted}
+use Rattle.curve.proofs.Accepted.{accepted-facts, number-accepted, call-accepted, elevation-accepted}
 use Rattle.curve.proofs.Answers.{evaluated-accepted, evaluated-refusal, subdivided-refusal, elevated-refusal, bounded-refusal}
 use Rattle.curve.proofs.Pieces.{load-held, good-pieces, good-raised}
 use Rattle.curve.proofs.BoundsLeast.{least-bounds}

@@ -1,20 +1,20 @@
 -- A step looks at no more than the longest card: what lies behind changes nothing.
 -- Assumes nothing.
-use mathlib.Core.Path.{_≡_, refl, sym, ap, ap₂, _∙_}
-use mathlib.Core.Bool.{Bool, true, false, cond, _&&_}
+use mathlib.Core.Path.{_≡_, refl, sym, ap, _∙_}
+use mathlib.Core.Bool.{Bool, true, false, cond}
 use mathlib.Core.List.{List, [], _∷_}
-use Prim.Native.Nat.{ℕ, zero, suc, _+_, _*_, _≤_, _<_, min}
+use Prim.Native.Nat.{ℕ, zero, suc, _+_, _≤_, _<_}
 use native.Mathlib.Omega.{arith}
 use borrow.Author.Tests.{leb-true, ne-eqb}
 use lib.Dec.{leb, eqb}
-use lib.ListN.{length, getD, take, drop, length-take}
+use lib.ListN.{length, take, drop}
 use lib.Seq.{take-take, getD-take}
 use Rattle.columns.specs.Column.{readBytes, readAt}
 use Rattle.curve.specs.Limits.{maxDegree}
 use Rattle.card_text.specs.Card.{cardLength}
 use Rattle.replay_steps.specs.declared.Session.{Session}
 use Rattle.replay_steps.specs.Request.{wordIn, sideIn, wordAt, sideAt, endsAt, endsLine, parameterAt, walkAt, requestBy, requestOf}
-use Rattle.replay_steps.specs.Step.{cardSize, cardAt, cardStep, callStep, effect}
+use Rattle.replay_steps.specs.Step.{cardSize, cardAt, cardStep, effect}
 use Rattle.replay_steps.specs.Promises.{window, WindowEnough}
 
 -- ten bytes within the first n

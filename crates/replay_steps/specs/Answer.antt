@@ -8,15 +8,15 @@ use lib.IntN.{ℤ, pos}
 use Rattle.curve.specs.declared.Curve.{Curve}
 use Rattle.curve.specs.declared.Rect.{Rect}
 use Rattle.curve.specs.declared.Refusal.{Refusal}
-use Rattle.curve.specs.declared.Subdivision.{Subdivision}
 use Rattle.curve.specs.Curve.{point}
 use Rattle.curve.specs.Calls.{evaluated, subdivided, elevated, bounded}
-use Rattle.search.specs.Verdict.{Report, reported}
+use Rattle.search.specs.Verdict.{reported}
 use Rattle.search.specs.Search.{searched}
 use Rattle.ledger.specs.Ledger.{Piece, left, right, kept}
 use Rattle.replay_steps.specs.declared.Case.{Case}
 use Rattle.replay_steps.specs.Line.{added, capped}
 
+-- what a call leaves and shows
 pub record Answer : Type 0 where
   pub case : Case
   pub numbers : List ℤ
@@ -52,6 +52,7 @@ evaluation s num den =
     let e = evaluated (s .curve) num den in
     answering s (e .refusal) s (sidesThen (e .load) (capped (s .sum + s .curve .degree) ∷ []))
 
+-- the piece that is kept
 abbrev pub pieceOf : Bool → Piece
 pieceOf true = right
 pieceOf false = left

@@ -33,10 +33,11 @@ pub record Replied (a : Answer) (before : List ℕ) (r : Reply) (after : List �
   pub text : after ≡ placed before 0 (line (a .numbers))
 
 -- a verdict's number and values
+abbrev pub reportBy : ℕ → ℕ → ℕ → ℕ → Report
+reportBy number depth index count = record { number = number; depth = depth; index = index; count = count }
+
 abbrev pub reportOf : Verdict → Report
-reportOf v =
-    let r = reported v in
-    record { number = r .number; depth = r .depth; index = r .index; count = r .count }
+reportOf v = let r = reported v in reportBy (r .number) (r .depth) (r .index) (r .count)
 
 -- a line is done: the case of a reply, so many bytes further
 abbrev pub passedBy : ℕ → ℕ → Bool → Reply → Stepped

@@ -1,7 +1,7 @@
 -- The lines that are written: numbers in columns, and byte 10.
 -- Assumes nothing.
 use mathlib.Core.List.{List, [], _∷_, _++_}
-use Prim.Native.Nat.{ℕ, _+_, min}
+use Prim.Native.Nat.{ℕ, _+_, _*_, min}
 use lib.IntN.{ℤ, pos}
 use Rattle.columns.specs.Column.{column}
 use Rattle.card_text.specs.Card.{newline}
@@ -14,6 +14,10 @@ columns (z ∷ zs) = column z ++ columns zs
 -- the line of some numbers
 unfoldable pub line : List ℤ → List ℕ
 line zs = columns zs ++ (newline ∷ [])
+
+-- the bytes of a line of so many columns
+abbrev pub lineLength : ℕ → ℕ
+lineLength count = 10 * count + 1
 
 -- the largest number that a column holds
 abbrev pub largest : ℕ

@@ -7,8 +7,10 @@ use Prim.Native.Nat.{ℕ, _+_, _≤_, _<_, min}
 use lib.IntN.{pos}
 use lib.ListN.{length, take}
 use Rattle.curve.specs.declared.Curve.{Curve}
+use Rattle.curve.specs.Limits.{maxDegree}
 use Rattle.curve.specs.Refusals.{Accepted, AcceptedAt}
 use Rattle.curve.specs.Calls.{evaluated}
+use Rattle.card_text.specs.Card.{cardLength}
 use Rattle.ledger.specs.Ledger.{Ledger, Call, reading, cut, raising, left, right, opened, after, leaves}
 use Rattle.replay_steps.specs.declared.Case.{Case}
 use Rattle.replay_steps.specs.declared.Session.{Session}
@@ -27,7 +29,7 @@ Progress =
 
 -- the bytes that a step looks at: the longest card
 abbrev pub window : ℕ
-window = 380
+window = cardLength maxDegree
 
 -- what lies behind those changes nothing
 abbrev pub WindowEnough : Type 0

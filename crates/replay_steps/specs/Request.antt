@@ -25,6 +25,7 @@ use Rattle.replay_steps.specs.declared.request.Request.the-variants.{Inv
 abbrev pub between : ℤ → ℤ → ℤ → Bool
 between low high z = leZ low z && leZ z high
 
+-- no number
 abbrev pub noWord : Word
 noWord = record { ok = false; value = 0 }
 
@@ -39,6 +40,7 @@ noSide = record { ok = false; value = pos 0 }
 unfoldable pub sideOf : ℤ → Side
 sideOf z = cond (between (negsuc 2147483647) (pos 2147483647) z) (record { ok = true; value = z }) noSide
 
+-- what stands in a column as a number of either range
 abbrev pub wordIn : Column → Word
 wordIn (Number z) = wordOf z
 wordIn Malformed = noWord
@@ -92,7 +94,7 @@ walkAt bytes =
 abbrev pub shaped : Bool → Request → Request
 shaped ok request = cond ok request Invalid
 
--- the requests of the lines with numbers behind the call's own
+-- the request of a reading, of a cut and of a walk over a box
 abbrev pub evaluateAt : List ℕ → Request
 evaluateAt bytes = let p = parameterAt bytes in shaped (p .ok) (Evaluate (p .num) (p .den))
 
@@ -114,5 +116,6 @@ requestBy bytes kind =
     (cond (eqb kind 6) (searchAt bytes)
     Invalid))))))
 
+-- the request of the line at the front: its first column has the number of the call
 unfoldable pub requestOf : List ℕ → Request
 requestOf bytes = cond (wordAt bytes 0 .ok) (requestBy bytes (wordAt bytes 0 .value)) Invalid

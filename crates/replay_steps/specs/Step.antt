@@ -2,12 +2,12 @@
 -- Assumes nothing.
 use mathlib.Core.Bool.{Bool, true, false, cond, _||_}
 use mathlib.Core.List.{List, [], _∷_, _++_}
-use Prim.Native.Nat.{ℕ}
+use Prim.Native.Nat.{ℕ, _+_, _*_}
 use lib.Dec.{leb, ltb, eqb}
 use lib.IntN.{pos}
 use lib.ListN.{length, take, drop}
 use Rattle.curve.specs.declared.Refusal.{Refusal}
-use Rattle.curve.specs.Limits.{maxDegree}
+use Rattle.curve.specs.Limits.{maxDegree, places}
 use Rattle.curve.specs.Curve.{zeroCurve}
 use Rattle.card_text.specs.declared.CardRead.{CardRead}
 use Rattle.card_text.specs.Card.{cardLength}
@@ -19,7 +19,7 @@ use Rattle.replay_steps.specs.declared.Status.the-variants.{Done, Ended,
 use Rattle.replay_steps.specs.declared.Stepped.{Stepped}
 use Rattle.replay_steps.specs.declared.request.Request.{Request}
 use Rattle.replay_steps.specs.declared.request.Request.the-variants.{Invalid, Close, Evaluate, Subdivide, Elevate, Bounds, Search}
-use Rattle.replay_steps.specs.Line.{line, added, capped}
+use Rattle.replay_steps.specs.Line.{line, lineLength, added, capped}
 use Rattle.replay_steps.specs.Request.{wordAt, requestOf}
 use Rattle.replay_steps.specs.Answer.{Answer, answering, evaluation, subdivision, elevation, enclosure, verdict}
 
@@ -79,6 +79,7 @@ openingBy s r = answering s r s (pos (s .curve .degree) ∷ [])
 abbrev pub opening : CardRead → Answer
 opening r = openingBy (record { curve = r .curve; sum = 0 }) (r .refusal)
 
+-- a well-formed card begins a case, and any other ends the run
 unfoldable pub cardStep : Session → List ℕ → Effect
 cardStep s bytes =
     let r = readCard (cardAt bytes) in
@@ -86,21 +87,23 @@ cardStep s bytes =
 
 -- ---- a call line
 
+-- a call line leaves the case that its answer says; the line that closes a case writes nothing
 abbrev pub callStep : Session → Request → Effect
 callStep s Invalid = stopping s
-callStep s Close = passing s 11 false (s .case) []
-callStep s (Evaluate num den) = answered s 31 (evaluation (s .case) num den)
-callStep s (Subdivide num den keepsRight) = answered s 31 (subdivision (s .case) num den keepsRight)
-callStep s Elevate = answered s 11 (elevation (s .case))
-callStep s Bounds = answered s 11 (enclosure (s .case))
-callStep s (Search limits depth budget) = answered s 71 (verdict (s .case) limits depth budget)
+callStep s Close = passing s (lineLength 1) false (s .case) []
+callStep s (Evaluate num den) = answered s (lineLength 3) (evaluation (s .case) num den)
+callStep s (Subdivide num den keepsRight) = answered s (lineLength 3) (subdivision (s .case) num den keepsRight)
+callStep s Elevate = answered s (lineLength 1) (elevation (s .case))
+callStep s Bounds = answered s (lineLength 1) (enclosure (s .case))
+callStep s (Search limits depth budget) = answered s (lineLength 7) (verdict (s .case) limits depth budget)
 
 -- ---- the step
 
--- the bytes that the longest answer takes: a cut at the highest degree
+-- the bytes that the longest answer takes: a cut at the highest degree, with eight sides for each place of the record
 abbrev pub lineRoom : ℕ
-lineRoom = 741
+lineRoom = lineLength (2 + 8 * places)
 
+-- what a step on some input does, by the room in the buffer, by whether there is input, and by whether a case has begun
 unfoldable pub effect : Session → List ℕ → List ℕ → Effect
 effect s input out =
     cond (ltb (length out) lineRoom) (idle s NoRoom)

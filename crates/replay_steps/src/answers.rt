@@ -16,7 +16,7 @@ ghost use Rattle.replay_steps.specs.Answer.{
   verdict,
 };
 ghost use Rattle.replay_steps.specs.Step.{lineRoom};
-ghost use Rattle.replay_steps.specs.Inner.{Replied, reportOf};
+ghost use Rattle.replay_steps.specs.Inner.{Replied, reportBy, reportOf};
 use crate::Case;
 use crate::write::end_line;
 use crate::write::rect_numbers;
@@ -174,48 +174,35 @@ pub fn enclosure(case: Case, out: &mut [u8]) -> Reply
     Reply { case, written }
 }
 
+fn report_with(number: u32, depth: u32, index: u32, count: u32) -> Report
+    ensures { λ r. ⌜ r ≡ reportBy number depth index count ⌝ }
+{
+    Report {
+        number,
+        depth,
+        index,
+        count,
+    }
+}
+
+// A verdict as numbers.
 fn report_of(verdict: Verdict) -> Report
     ensures { λ r. ⌜ r ≡ reportOf verdict ⌝ }
 {
     match verdict {
-        Verdict::Refused => Report {
-            number: 0,
-            depth: 0,
-            index: 0,
-            count: 0,
-        },
-        Verdict::Inside(count) => Report {
-            number: 1,
-            depth: 0,
-            index: 0,
-            count,
-        },
+        Verdict::Refused => report_with(0, 0, 0, 0),
+        Verdict::Inside(count) => report_with(1, 0, 0, count),
         Verdict::Outside {
             depth,
             index,
             count,
-        } => Report {
-            number: 2,
-            depth,
-            index,
-            count,
-        },
-        Verdict::Spent(count) => Report {
-            number: 3,
-            depth: 0,
-            index: 0,
-            count,
-        },
+        } => report_with(2, depth, index, count),
+        Verdict::Spent(count) => report_with(3, 0, 0, count),
         Verdict::Undecided {
             depth,
             index,
             count,
-        } => Report {
-            number: 4,
-            depth,
-            index,
-            count,
-        },
+        } => report_with(4, depth, index, count),
     }
 }
 

@@ -6,7 +6,6 @@ ghost use Rattle.replay_steps.specs.Step.{
   started,
   idle,
   stopping,
-  passing,
   cardSize,
   cardAt,
   isWhole,
@@ -36,6 +35,7 @@ use answers::subdivision;
 use answers::verdict;
 use curve::Curve;
 use curve::Interval;
+use curve::MAX_DEGREE;
 use curve::PLACES;
 use curve::Rect;
 use curve::Refusal;
@@ -44,11 +44,23 @@ use request::Request;
 use request::request_of;
 use write::write_line;
 
-// The bytes that a step needs to see, unless the input ends before: the longest card.
-pub const WINDOW: usize = 380;
+// The bytes of a card's first line, and of each other line.
+const HEADER_LENGTH: usize = 11;
 
-// The bytes that the longest answer takes: a cut at degree 8.
-pub const LINE_ROOM: usize = 741;
+const ROW_LENGTH: usize = 41;
+
+// The bytes of a line of one, of three and of seven columns.
+const LINE_OF_1: usize = 11;
+
+const LINE_OF_3: usize = 31;
+
+const LINE_OF_7: usize = 71;
+
+// The bytes that a step looks at: the longest card.
+pub const WINDOW: usize = HEADER_LENGTH + ROW_LENGTH * PLACES;
+
+// The bytes that the longest answer takes: a cut at the highest degree.
+pub const LINE_ROOM: usize = 10 * (2 + 8 * PLACES) + 1;
 
 // The present curve of a case, and the ledger's sum of steps.
 pub struct Case {
@@ -100,7 +112,8 @@ pub fn start() -> Session
 
 // Takes the card or the call line at the front of the input, and writes its answer.
 pub fn step(session: Session, input: &[u8], out: &mut [u8]) -> Stepped
-    ensures { λ r. ⌜ (r ≡ stepped (effect session (now (input .entry)) (now (out .entry)))) × (now (out .exit) ≡ written (effect session (now (input .entry)) (now (out .entry))) (now (out .entry))) ⌝ }
+    ensures { λ r. ⌜ r ≡ stepped (effect session (now (input .entry)) (now (out .entry))) ⌝ }
+    ensures { λ _. ⌜ now (out .exit) ≡ written (effect session (now (input .entry)) (now (out .entry))) (now (out .entry)) ⌝ }
 {
     if out.len() < LINE_ROOM {
         return idle(session, Status::NoRoom);
@@ -164,10 +177,10 @@ fn card_size(input: &[u8]) -> usize
     ensures { λ r. ⌜ r ≡ cardSize (now (input .entry)) ⌝ }
 {
     let degree = word_at(input, 0).value;
-    if degree <= 8 {
-        return 11 + 41 * (degree as usize + 1);
+    if degree <= MAX_DEGREE {
+        return HEADER_LENGTH + ROW_LENGTH * (degree as usize + 1);
     }
-    52
+    HEADER_LENGTH + ROW_LENGTH
 }
 
 // The card at the front of the input.
@@ -233,19 +246,29 @@ fn call_step(session: Session, request: Request, out: &mut [u8]) -> Stepped
     let offset = session.offset;
     match request {
         Request::Invalid => stopped(session, out),
-        Request::Close => passed(offset, 11, false, Reply { case, written: 0 }),
+        Request::Close => passed(offset, LINE_OF_1, false, Reply { case, written: 0 }),
         Request::Evaluate { num, den } => {
-            passed(offset, 31, true, evaluation(case, num, den, out))
+            passed(offset, LINE_OF_3, true, evaluation(case, num, den, out))
         }
         Request::Subdivide { num, den, right } => {
-            passed(offset, 31, true, subdivision(case, num, den, right, out))
+            passed(
+                offset,
+                LINE_OF_3,
+                true,
+                subdivision(case, num, den, right, out),
+            )
         }
-        Request::Elevate => passed(offset, 11, true, elevation(case, out)),
-        Request::Bounds => passed(offset, 11, true, enclosure(case, out)),
+        Request::Elevate => passed(offset, LINE_OF_1, true, elevation(case, out)),
+        Request::Bounds => passed(offset, LINE_OF_1, true, enclosure(case, out)),
         Request::Search {
             limits,
             depth,
             budget,
-        } => passed(offset, 71, true, verdict(case, limits, depth, budget, out)),
+        } => passed(
+            offset,
+            LINE_OF_7,
+            true,
+            verdict(case, limits, depth, budget, out),
+        ),
     }
 }

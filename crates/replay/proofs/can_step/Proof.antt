@@ -1,6 +1,5 @@
 -- `can_step` meets its contract.
 -- Assumes nothing.
-use mathlib.Core.Path.{_≡_}
 use mathlib.Core.Bool.{false≢true}
 use borrow.Author.Tests.{not-false}
 use Rattle.replay.proofs.can_step.Statement.{statement}

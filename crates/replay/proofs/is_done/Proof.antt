@@ -1,6 +1,5 @@
 -- `is_done` meets its contract.
 -- Assumes nothing.
-use mathlib.Core.Path.{_≡_}
 use mathlib.Core.Bool.{false≢true}
 use borrow.Author.Needs.{needs}
 use Rattle.replay.proofs.is_done.Statement.{statement}

@@ -1,9 +1,9 @@
 -- `card_at` meets its contract: the whole input where it is shorter.
 -- Assumes nothing.
-use mathlib.Core.Path.{_≡_, sym, _∙_}
+use mathlib.Core.Path.{sym}
 use native.Mathlib.Omega.{arith}
 use lib.Seq.{length-take-le, take-all}
-use Rattle.replay_steps.specs.Step.{cardAt, cardSize}
+use Rattle.replay_steps.specs.Step.{cardAt}
 use borrow.Author.Needs.{needs}
 use Rattle.replay_steps.proofs.card_at.Statement.{statement}
 use Rattle.replay_steps.proofs.card_at.Tie as tie

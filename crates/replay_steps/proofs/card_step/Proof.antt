@@ -1,10 +1,6 @@
 -- `card_step` meets its contract: a card that is not well formed stops the run, any other begins a case.
 -- Assumes nothing.
-use mathlib.Core.Path.{_≡_, sym, subst, _∙_}
-use mathlib.Core.Bool.{true, false}
-use mathlib.Core.List.{List}
-use Prim.Native.Nat.{ℕ}
-use lib.ListN.{length}
+use mathlib.Core.Path.{sym, subst, _∙_}
 use borrow.Author.Tests.{not-true, not-false}
 use Rattle.replay_steps.specs.Step.{Effect, opening}
 use Rattle.replay_steps.specs.Inner.{Wrote}

@@ -1,6 +1,5 @@
 -- `is_whole` meets its contract.
 -- Assumes nothing.
-use mathlib.Core.Path.{_≡_}
 use borrow.Author.Tests.{eq-eqb, ne-eqb}
 use Rattle.replay_steps.proofs.is_whole.Statement.{statement}
 use Rattle.replay_steps.proofs.is_whole.Tie as tie

@@ -1,6 +1,5 @@
 -- `passed` meets its contract.
 -- Assumes nothing.
-use mathlib.Core.Path.{_≡_}
 use borrow.Author.Needs.{needs}
 use Rattle.replay_steps.proofs.passed.Statement.{statement}
 use Rattle.replay_steps.proofs.passed.Tie as tie

@@ -1,6 +1,6 @@
 -- `start` meets its contract: all nine rectangles are zero.
 -- Assumes nothing.
-use mathlib.Core.Path.{_≡_, refl}
+use mathlib.Core.Path.{refl}
 use Rattle.curve.specs.Curve.{pointsOf, tabulate}
 use Rattle.replay_steps.proofs.start.Statement.{statement}
 use Rattle.replay_steps.proofs.start.Tie as tie

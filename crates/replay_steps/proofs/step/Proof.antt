@@ -1,7 +1,6 @@
 -- `step` meets its contract: each way is a case of the definition.
 -- Assumes nothing.
-use mathlib.Core.Path.{_≡_, sym, ap, _∙_}
-use Rattle.replay_steps.specs.declared.request.Request.{Request}
+use mathlib.Core.Path.{ap, _∙_}
 use Rattle.replay_steps.specs.declared.Status.the-variants.{Ended, NoRoom}
 use Rattle.replay_steps.specs.Step.{callStep}
 use Rattle.replay_steps.proofs.Effects.{no-room, no-input, in-case, before-case, done, wrote-nothing}

@@ -1,19 +1,17 @@
 -- `elevation` meets its contract: a refusal, or the raised curve behind a 0 and its degree.
 -- Assumes nothing.
-use mathlib.Core.Path.{_≡_, refl, sym, ap, ap₂, subst, _∙_}
+use mathlib.Core.Path.{_≡_, sym, ap, ap₂, subst, _∙_}
 use mathlib.Core.List.{List, [], _∷_}
-use Prim.Native.Nat.{ℕ, _+_, _*_, _≤_, _<_}
+use Prim.Native.Nat.{ℕ, _+_, _*_, _≤_}
 use native.Mathlib.Omega.{arith}
 use lib.IntN.{ℤ, pos}
 use lib.ListN.{length}
 use Rattle.curve.specs.declared.Curve.{Curve}
 use Rattle.curve.specs.declared.Elevation.{Elevation}
+use Rattle.curve.specs.Limits.{maxDegree}
 use Rattle.curve.specs.Curve.{point}
 use Rattle.curve.specs.Refusals.{Accepted}
-use Rattle.curve.specs.Calls.{elevated}
-use Rattle.card_text.specs.Card.{newline}
 use Rattle.card_text.specs.Inner.{placed}
-use Rattle.replay_steps.specs.declared.Case.{Case}
 use Rattle.replay_steps.specs.Line.{columns, line}
 use Rattle.replay_steps.specs.Answer.{sidesOf, elevation}
 use Rattle.replay_steps.specs.Inner.{Fitting}
@@ -58,7 +56,7 @@ accepted x =
     let e = x .before .before .before .elevate .ensures in
     subst (λ (y : Elevation). Accepted (y .curve)) (sym e) (elevated-good (start x .args .case .curve) (subst (λ (y : Elevation). y .refusal .number ≡ 0) e (x .if1 .left)))
 
-few : (x : tie.Else1) → raised x .degree ≤ 8
+few : (x : tie.Else1) → raised x .degree ≤ maxDegree
 few x = curve-few (raised x) (accepted x)
 
 write-head-requires : tie.Need-write-head-requires

@@ -1,14 +1,15 @@
 -- `subdivision` meets its contract: a refusal, or both pieces behind a 0 and the degree.
 -- Assumes nothing.
-use mathlib.Core.Path.{_≡_, refl, sym, ap, ap₂, subst, _∙_}
+use mathlib.Core.Path.{_≡_, sym, ap, ap₂, subst, _∙_}
 use mathlib.Core.Bool.{Bool, true, false}
 use mathlib.Core.List.{List, [], _∷_, _++_}
-use Prim.Native.Nat.{ℕ, _+_, _*_, _≤_, _<_}
+use Prim.Native.Nat.{ℕ, _+_, _*_, _≤_}
 use native.Mathlib.Omega.{arith}
 use lib.IntN.{ℤ, pos}
 use lib.ListN.{length, length-append}
 use Rattle.curve.specs.declared.Curve.{Curve}
 use Rattle.curve.specs.declared.Subdivision.{Subdivision}
+use Rattle.curve.specs.Limits.{maxDegree}
 use Rattle.curve.specs.Curve.{point}
 use Rattle.curve.specs.Refusals.{Accepted}
 use Rattle.curve.specs.Calls.{evaluated, subdivided}
@@ -68,7 +69,7 @@ good x =
 pieces : (x : tie.Else1) → let a = start x .args in Pieces (curveOf x) (division x) (evaluated (curveOf x) (a .num) (a .den) .load)
 pieces x = good x .1
 
-few : (x : tie.Else1) → curveOf x .degree ≤ 8
+few : (x : tie.Else1) → curveOf x .degree ≤ maxDegree
 few x = curve-few (curveOf x) (good x .0)
 
 write-head-requires : tie.Need-write-head-requires

@@ -1,16 +1,14 @@
 -- `verdict` meets its contract: a refusal, or the numbers of the verdict.
 -- Assumes nothing.
-use mathlib.Core.Path.{_≡_, refl, sym, ap, ap₂, subst, _∙_}
+use mathlib.Core.Path.{_≡_, refl, sym, ap, subst, _∙_}
 use mathlib.Core.List.{List, [], _∷_}
-use Prim.Native.Nat.{ℕ, _*_, _<_, _≤_}
+use Prim.Native.Nat.{_<_}
 use native.Mathlib.Omega.{arith}
 use lib.IntN.{ℤ, pos}
-use lib.ListN.{length}
 use mir.Syntax.{w64}
 use mir.Val.{toZ}
 use Rattle.search.specs.declared.SearchAnswer.{SearchAnswer}
 use Rattle.search.specs.Search.{searched}
-use Rattle.search.specs.Verdict.{reported}
 use Rattle.replay_steps.specs.declared.answers.Report.{Report}
 use Rattle.replay_steps.specs.Answer.{verdict}
 use Rattle.replay_steps.specs.Inner.{Fitting, reportOf}

@@ -1,6 +1,5 @@
 -- `ends_at` meets its contract, column by column.
 -- Assumes nothing.
-use mathlib.Core.Path.{_≡_}
 use borrow.Author.Needs.{needs}
 use Rattle.curve.proofs.Machine.{told}
 use Rattle.replay_steps.specs.Request.{endsAt}

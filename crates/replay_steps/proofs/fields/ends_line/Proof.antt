@@ -1,6 +1,5 @@
 -- `ends_line` meets its contract: past the end there is no byte.
 -- Assumes nothing.
-use mathlib.Core.Path.{_≡_}
 use lib.ListN.{List·getD-eq-default}
 use borrow.Author.Needs.{needs}
 use Rattle.replay_steps.specs.Request.{endsLine}

@@ -1,6 +1,6 @@
 -- `side_at` meets its contract, by what stands in the column.
 -- Assumes nothing.
-use mathlib.Core.Path.{_≡_, sym, ap, _∙_}
+use mathlib.Core.Path.{sym, ap, _∙_}
 use borrow.Author.Needs.{needs}
 use Rattle.card_text.proofs.Clamped.{told}
 use Rattle.replay_steps.specs.Request.{sideOf, sideIn, sideAt}

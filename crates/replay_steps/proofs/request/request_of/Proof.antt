@@ -6,7 +6,6 @@ use mathlib.Core.List.{List}
 use Prim.Native.Nat.{ℕ}
 use borrow.Author.Tests.{not-true, not-false}
 use Rattle.replay_steps.specs.Request.{shaped, requestBy, requestOf}
-use Rattle.replay_steps.specs.declared.request.Request.{Request}
 use Rattle.replay_steps.specs.declared.request.Request.the-variants.{Close, Elevate, Bounds}
 use Rattle.replay_steps.proofs.Requests.{no-kind, by-kind, unknown-kind}
 use borrow.Author.Needs.{needs}

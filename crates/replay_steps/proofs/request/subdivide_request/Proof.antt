@@ -1,6 +1,6 @@
 -- `subdivide_request` meets its contract.
 -- Assumes nothing.
-use mathlib.Core.Path.{_≡_, _∙_}
+use mathlib.Core.Path.{_∙_}
 use borrow.Author.Needs.{needs}
 use Rattle.replay_steps.proofs.request.subdivide_request.Statement.{statement}
 use Rattle.replay_steps.proofs.request.subdivide_request.Tie as tie

@@ -1,6 +1,5 @@
 -- `walk_at` meets its contract, column by column.
 -- Assumes nothing.
-use mathlib.Core.Path.{_≡_}
 use Rattle.replay_steps.specs.Request.{walkAt}
 use borrow.Author.Needs.{needs}
 use Rattle.replay_steps.proofs.request.walk_at.Statement.{statement}

@@ -1,6 +1,6 @@
 -- `end_line` meets its contract.
 -- Assumes nothing.
-use mathlib.Core.Path.{_≡_, refl}
+use mathlib.Core.Path.{refl}
 use Rattle.card_text.specs.Card.{newline}
 use Rattle.card_text.proofs.Placed.{placed-byte}
 use borrow.Author.Needs.{needs}

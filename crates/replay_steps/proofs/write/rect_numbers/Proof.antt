@@ -1,6 +1,5 @@
 -- `rect_numbers` meets its contract: each side comes back from its bits.
 -- Assumes nothing.
-use mathlib.Core.Path.{_≡_}
 use mir.Syntax.{w64}
 use mir.ValLaws.{toZ-ofZ}
 use Rattle.replay_steps.proofs.Numbers.{widens, widened}
