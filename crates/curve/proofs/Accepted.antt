@@ -135,7 +135,7 @@ pub record Facts (c : Curve) : Type 0 where
 number-facts : (c : Curve) → curveRefusal c .number ≡ 0 → Facts c
 unfolding curveRefusal rangeRefusal orderRefusal
 number-facts c h =
-    let (first, rest) = or-split (degreeRefusal c) (rangeRefusal c orElse orderRefusal c) h in
+    let (first, rest) = or-split (degreeRefusal (c .degree)) (rangeRefusal c orElse orderRefusal c) h in
     let (range, order) = or-split (rangeRefusal c) (orderRefusal c) rest in
     let (low, high) = between-holds (c .degree) maxDegree 0 first in
     record {
@@ -148,7 +148,7 @@ number-facts c h =
 pub facts-accepted : {c : Curve} → Facts c → Accepted c
 unfolding curveRefusal rangeRefusal orderRefusal
 facts-accepted {c} f =
-    or-none (degreeRefusal c) _ (between-none (c .degree) maxDegree 1 (f .some) (f .few))
+    or-none (degreeRefusal (c .degree)) _ (between-none (c .degree) maxDegree 1 (f .some) (f .few))
     ∙ or-none (rangeRefusal c) _ (first-none (λ k. sidesInRange (point c k)) 2 (c .degree + 1) 0 (λ k low high. sides-range (point c k) (f .inRange k (omega arith))))
     ∙ first-none (λ k. sidesOrdered (point c k)) 3 (c .degree + 1) 0 (λ k low high. sides-order (point c k) (f .ordered k (omega arith)))
 

@@ -1,10 +1,8 @@
 -- Small facts that the functions' proofs share: a signed value comes back from its bits, and a test by `&&`.
 -- Assumes nothing.
-use mathlib.Core.Path.{_≡_, sym, ap, ap₂, _∙_}
+use mathlib.Core.Path.{_≡_, sym, ap, _∙_}
 use mathlib.Core.Bool.{Bool, true, false, _&&_}
-use Prim.Native.Nat.{ℕ, _≤_, _<_, _^_}
-use lib.Dec.{leb, ltb}
-use borrow.Author.Tests.{lt-leb, le-leb, ltb-true, ltb-false}
+use Prim.Native.Nat.{_<_, _^_}
 use lib.IntN.{ℤ}
 use lib.Signed.{mag}
 use mir.Syntax.{w32}
@@ -25,13 +23,3 @@ and-yes {a} {b} e = ap (λ (x : Bool). x && b) (sym e)
 
 pub and-no : (a b : Bool) → a ≡ false → a ≡ (a && b)
 and-no a b e = e ∙ ap (λ (x : Bool). x && b) (sym e)
-
--- a number from 1 to k, as the code tests it and as the definitions do
-pub too-low : (k x : ℕ) → x < 1 → (leb 1 x && leb x k) ≡ false
-too-low k x h = ap (λ (b : Bool). b && leb x k) (lt-leb 1 x h)
-
-pub too-high : (k x : ℕ) → 1 ≤ x → ltb k x ≡ true → (leb 1 x && leb x k) ≡ false
-too-high k x low high = ap₂ _&&_ (le-leb 1 x low) (lt-leb x k (ltb-true k x high))
-
-pub between : (k x : ℕ) → 1 ≤ x → ltb k x ≡ false → (leb 1 x && leb x k) ≡ true
-between k x low high = ap₂ _&&_ (le-leb 1 x low) (le-leb x k (ltb-false k x high))

@@ -11,8 +11,7 @@ use Rattle.curve.specs.declared.Refusal.{Refusal}
 use Rattle.curve.specs.declared.Curve.{Curve}
 use Rattle.curve.specs.Rect.{sidesInRange, sidesOrdered}
 use Rattle.curve.specs.Curve.{point}
-use Rattle.curve.specs.Inner.{orderRefusalAt}
-use Rattle.curve.specs.Refusals.{refusal, none, _orElse_, firstFailing, rangeRefusal, orderRefusal}
+use Rattle.curve.specs.Refusals.{refusal, none, _orElse_, unlessAt, firstFailing, rangeRefusal, orderRefusal}
 
 -- ---- the first of several
 
@@ -44,9 +43,9 @@ Settled a = (a orElse none) ≡ a
 pub settled-or : (a b : Refusal) → Settled a → Settled b → Settled (a orElse b)
 settled-or a b ha hb = or-assoc a b none ∙ ap (λ (x : Refusal). a orElse x) hb
 
-pub settled-order : (ok : Bool) (place : ℕ) → Settled (orderRefusalAt ok place)
-settled-order true place = refl
-settled-order false place = refl
+pub settled-unless : (ok : Bool) (number place : ℕ) → Settled (unlessAt ok (suc number) place)
+settled-unless true number place = refl
+settled-unless false number place = sym (or-first (refusal (suc number) place) none (λ (e : suc number ≡ 0). omega arith))
 
 -- ---- the first place of which a test fails
 
@@ -83,7 +82,7 @@ passed-start c =
     }
 
 module _ (c : Curve) (n k : ℕ) (unordered : Refusal) (h : k ≤ n) (p : Passed c n k unordered) where
-  pub passed-next : sidesInRange (point c k) ≡ true → Passed c n (k + 1) (unordered orElse orderRefusalAt (sidesOrdered (point c k)) k)
+  pub passed-next : sidesInRange (point c k) ≡ true → Passed c n (k + 1) (unordered orElse unlessAt (sidesOrdered (point c k)) 3 k)
   passed-next ok =
       record {
         within = omega arith;
@@ -91,11 +90,11 @@ module _ (c : Curve) (n k : ℕ) (unordered : Refusal) (h : k ≤ n) (p : Passed
         order =
             p .order
             ∙ ap (λ (x : Refusal). unordered orElse x) (first-step (λ i. sidesOrdered (point c i)) 3 n k h ∙ split (sidesOrdered (point c k)) (firstFailing (λ i. sidesOrdered (point c i)) 3 (n + 1 - (k + 1)) (k + 1)))
-            ∙ sym (or-assoc unordered (orderRefusalAt (sidesOrdered (point c k)) k) (firstFailing (λ i. sidesOrdered (point c i)) 3 (n + 1 - (k + 1)) (k + 1)));
-        settled = settled-or unordered (orderRefusalAt (sidesOrdered (point c k)) k) (p .settled) (settled-order (sidesOrdered (point c k)) k);
+            ∙ sym (or-assoc unordered (unlessAt (sidesOrdered (point c k)) 3 k) (firstFailing (λ i. sidesOrdered (point c i)) 3 (n + 1 - (k + 1)) (k + 1)));
+        settled = settled-or unordered (unlessAt (sidesOrdered (point c k)) 3 k) (p .settled) (settled-unless (sidesOrdered (point c k)) 2 k);
       }
     where
-      split : (b : Bool) (rest : Refusal) → cond b rest (refusal 3 k) ≡ (orderRefusalAt b k orElse rest)
+      split : (b : Bool) (rest : Refusal) → cond b rest (refusal 3 k) ≡ (unlessAt b 3 k orElse rest)
       split true rest = refl
       split false rest = refl
 

@@ -1,7 +1,7 @@
 -- What the functions inside the crate ask of each other. No public contract cites it.
 -- Assumes nothing.
 use mathlib.Core.Path.{_≡_}
-use mathlib.Core.Bool.{Bool, true, false, cond}
+use mathlib.Core.Bool.{Bool, true, false}
 use Prim.Native.Nat.{ℕ, _+_, _*_, _/_, _≤_, _<_}
 use lib.IntN.{ℤ, pos, negℤ, _+ℤ_, _*ℤ_}
 use lib.Signed.{_≤ℤ_}
@@ -9,11 +9,9 @@ use Rattle.rational.specs.Rounding.{Rounding, down, up}
 use Rattle.curve.specs.declared.Interval.{Interval}
 use Rattle.curve.specs.declared.Rect.{Rect}
 use Rattle.curve.specs.declared.Curve.{Curve}
-use Rattle.curve.specs.declared.Refusal.{Refusal}
 use Rattle.curve.specs.Limits.{maxDegree, maxSide, maxDen}
 use Rattle.curve.specs.Rect.{Coordinate, end, along}
 use Rattle.curve.specs.Curve.{point}
-use Rattle.curve.specs.Refusals.{none, refusal}
 
 -- a side within its range
 pub record Side (z : ℤ) : Type 0 where
@@ -64,7 +62,3 @@ pub record Ready (c : Curve) : Type 0 where
   pub some : 1 ≤ c .degree
   pub few : c .degree ≤ maxDegree
   pub held : (k : ℕ) → k ≤ c .degree → Held (point c k)
-
--- the refusal of one rectangle's order
-abbrev pub orderRefusalAt : Bool → ℕ → Refusal
-orderRefusalAt ordered place = cond ordered none (refusal 3 place)

@@ -21,9 +21,12 @@ infixr 4 _orElse_
 abbrev pub _orElse_ : Refusal → Refusal → Refusal
 a orElse b = cond (eqb (a .number) 0) b a
 
--- refused with this number, at place 0, unless the test holds
+-- refused with this number at this place unless the test holds, and the same at place 0
+abbrev pub unlessAt : Bool → ℕ → ℕ → Refusal
+unlessAt ok number place = cond ok none (refusal number place)
+
 abbrev pub unless : Bool → ℕ → Refusal
-unless ok number = cond ok none (refusal number 0)
+unless ok number = unlessAt ok number 0
 
 -- refused with this number at the first of the m places from `from` on of which the test fails
 unfoldable pub firstFailing : (ℕ → Bool) → ℕ → ℕ → ℕ → Refusal
@@ -31,8 +34,8 @@ firstFailing ok number zero from = none
 firstFailing ok number (suc m) from = cond (ok from) (firstFailing ok number m (suc from)) (refusal number from)
 
 -- 1: the degree
-abbrev pub degreeRefusal : Curve → Refusal
-degreeRefusal c = unless (leb 1 (c .degree) && leb (c .degree) maxDegree) 1
+abbrev pub degreeRefusal : ℕ → Refusal
+degreeRefusal degree = unless (leb 1 degree && leb degree maxDegree) 1
 
 -- 2: a side out of range; 3: a low above its high; each at the first such rectangle
 unfoldable pub rangeRefusal : Curve → Refusal
@@ -42,7 +45,7 @@ unfoldable pub orderRefusal : Curve → Refusal
 orderRefusal c = firstFailing (λ k. sidesOrdered (point c k)) 3 (c .degree + 1) 0
 
 unfoldable pub curveRefusal : Curve → Refusal
-curveRefusal c = degreeRefusal c orElse rangeRefusal c orElse orderRefusal c
+curveRefusal c = degreeRefusal (c .degree) orElse rangeRefusal c orElse orderRefusal c
 
 -- 4: the denominator; 5: the numerator
 unfoldable pub parameterRefusal : ℕ → ℕ → Refusal

@@ -1,10 +1,19 @@
 // The checks of a curve and of a parameter: the first refusal that applies, in document 01's order.
 ghost use mathlib.Core.Path.{_≡_};
+ghost use mathlib.Core.Bool.{_&&_};
 ghost use Prim.Native.Nat.{_≤_};
+ghost use lib.Dec.{leb};
 ghost use Rattle.curve.specs.Rect.{inRange, endsInRange, sidesInRange, endsOrdered, sidesOrdered};
 ghost use Rattle.curve.specs.Limits.{maxDegree};
-ghost use Rattle.curve.specs.Refusals.{curveRefusal, parameterRefusal, rangeRefusal, orderRefusal, _orElse_};
-ghost use Rattle.curve.specs.Inner.{orderRefusalAt};
+ghost use Rattle.curve.specs.Refusals.{
+  _orElse_,
+  unlessAt,
+  degreeRefusal,
+  rangeRefusal,
+  orderRefusal,
+  curveRefusal,
+  parameterRefusal,
+};
 ghost use Rattle.curve.specs.Calls.{callRefusal, elevationRefusal};
 use crate::Curve;
 use crate::Interval;
@@ -14,6 +23,26 @@ use crate::MAX_SIDE;
 use crate::MIN_SIDE;
 use crate::Rect;
 use crate::Refusal;
+
+// This refusal unless the test held.
+pub fn refused_unless(ok: bool, number: u32, place: usize) -> Refusal
+    ensures { λ r. ⌜ r ≡ unlessAt ok number place ⌝ }
+{
+    if ok {
+        return Refusal {
+            number: 0,
+            place: 0,
+        };
+    }
+    Refusal { number, place }
+}
+
+// The first refusal, and the second where the first is none.
+pub fn first_of(a: Refusal, b: Refusal) -> Refusal
+    ensures { λ r. ⌜ r ≡ (a orElse b) ⌝ }
+{
+    if a.number != 0 { a } else { b }
+}
 
 fn in_range(side: i32) -> bool
     ensures { λ r. ⌜ r ≡ inRange side ⌝ }
@@ -45,20 +74,28 @@ pub fn sides_ordered(p: Rect) -> bool
     ends_ordered(p.resistance) && ends_ordered(p.reactance)
 }
 
-// The earlier refusal; where there is none, a 3 at this place if a low is above its high.
+// Whether a number is from 1 to the largest that is allowed.
+pub fn is_from_one_to(x: u32, largest: u32) -> bool
+    ensures { λ r. ⌜ r ≡ (leb 1 x && leb x largest) ⌝ }
+{
+    1 <= x && x <= largest
+}
+
+// Refusal 1.
+pub fn degree_refusal(degree: u32) -> Refusal
+    ensures { λ r. ⌜ r ≡ degreeRefusal degree ⌝ }
+{
+    refused_unless(is_from_one_to(degree, MAX_DEGREE), 1, 0)
+}
+
+// The earlier refusal; where there is none, a 3 at this place if a low is above its high. It branches, which is faster in a loop than first_of.
 fn order_refusal(earlier: Refusal, p: Rect, place: usize) -> Refusal
-    ensures { λ r. ⌜ r ≡ (earlier orElse orderRefusalAt (sidesOrdered p) place) ⌝ }
+    ensures { λ r. ⌜ r ≡ (earlier orElse unlessAt (sidesOrdered p) 3 place) ⌝ }
 {
     if earlier.number != 0 {
         return earlier;
     }
-    if sides_ordered(p) {
-        return Refusal {
-            number: 0,
-            place: 0,
-        };
-    }
-    Refusal { number: 3, place }
+    refused_unless(sides_ordered(p), 3, place)
 }
 
 // Refusals 2 and 3 in one pass: a side out of range ends it, and the first low above its high is kept for the end.
@@ -90,11 +127,9 @@ fn points_refusal(c: Curve) -> Refusal
 pub fn curve_refusal(c: Curve) -> Refusal
     ensures { λ r. ⌜ r ≡ curveRefusal c ⌝ }
 {
-    if c.degree < 1 || MAX_DEGREE < c.degree {
-        return Refusal {
-            number: 1,
-            place: 0,
-        };
+    let refusal = degree_refusal(c.degree);
+    if refusal.number != 0 {
+        return refusal;
     }
     points_refusal(c)
 }
@@ -103,48 +138,23 @@ pub fn curve_refusal(c: Curve) -> Refusal
 fn parameter_refusal(num: u32, den: u32) -> Refusal
     ensures { λ r. ⌜ r ≡ parameterRefusal num den ⌝ }
 {
-    if den < 1 || MAX_DEN < den {
-        return Refusal {
-            number: 4,
-            place: 0,
-        };
-    }
-    if den < num {
-        return Refusal {
-            number: 5,
-            place: 0,
-        };
-    }
-    Refusal {
-        number: 0,
-        place: 0,
-    }
+    let refusal = refused_unless(is_from_one_to(den, MAX_DEN), 4, 0);
+    first_of(refusal, refused_unless(num <= den, 5, 0))
 }
 
 // Refusals 1 to 5.
 pub fn call_refusal(c: Curve, num: u32, den: u32) -> Refusal
     ensures { λ r. ⌜ r ≡ callRefusal c num den ⌝ }
 {
-    let refusal = curve_refusal(c);
-    if refusal.number != 0 {
-        return refusal;
-    }
-    parameter_refusal(num, den)
+    first_of(curve_refusal(c), parameter_refusal(num, den))
 }
 
 // Refusals 1 to 3, and 6 at the highest degree.
 pub fn elevation_refusal(c: Curve) -> Refusal
     ensures { λ r. ⌜ r ≡ elevationRefusal c ⌝ }
 {
-    let refusal = curve_refusal(c);
-    if refusal.number != 0 {
-        return refusal;
-    }
-    if c.degree < MAX_DEGREE {
-        return refusal;
-    }
-    Refusal {
-        number: 6,
-        place: 0,
-    }
+    first_of(
+        curve_refusal(c),
+        refused_unless(c.degree < MAX_DEGREE, 6, 0),
+    )
 }

@@ -9,6 +9,7 @@ mod display;
 mod hull;
 mod raising;
 mod table;
+mod zeros;
 
 use checks::call_refusal;
 use checks::elevation_refusal;
@@ -16,14 +17,23 @@ use display::ohms_of;
 use hull::hull_of;
 use raising::raised_points;
 use table::table_of;
-use table::zero_rect;
 
-// The check of a curve by itself: refusals 1 to 3.
+// The check of a degree by itself, refusal 1, and of a curve by itself, refusals 1 to 3.
 pub use checks::curve_refusal;
+pub use checks::degree_refusal;
+
+// Refusals from tests, and the first of two, for whoever adds refusals of their own.
+pub use checks::first_of;
+pub use checks::is_from_one_to;
+pub use checks::refused_unless;
 
 // The checks of a rectangle by itself: its sides are in range, and low is at most high.
 pub use checks::sides_in_range;
 pub use checks::sides_ordered;
+
+// The zero rectangle and the zero curve.
+pub use zeros::zero_curve;
+pub use zeros::zero_rect;
 
 // The highest degree of a curve.
 pub const MAX_DEGREE: u32 = 8;
@@ -97,50 +107,17 @@ pub struct Enclosure {
     pub rect: Rect,
 }
 
-// The load at num/den: the last rectangle of de Casteljau's table, every stage rounded outward; refusals 1 to 5.
-pub fn evaluate(c: Curve, num: u32, den: u32) -> Evaluation
-    ensures { λ r. ⌜ r ≡ evaluated c num den ⌝ }
-{
-    let refusal = call_refusal(c, num, den);
-    if refusal.number != 0 {
-        return Evaluation {
-            refusal,
-            load: zero_rect(),
-            ohms: Ohms {
-                rlow: 0.0,
-                rhigh: 0.0,
-                xlow: 0.0,
-                xhigh: 0.0,
-            },
-        };
-    }
-    let table = table_of(c, num, den);
-    let last = table.right;
-    let load = last[0];
-    Evaluation {
-        refusal,
-        load,
-        ohms: ohms_of(load),
-    }
-}
-
-// The two pieces of the curve at num/den, from the same table; refusals 1 to 5.
+// The two pieces of the curve at num/den, off de Casteljau's table, every stage rounded outward; refusals 1 to 5.
 pub fn subdivide(c: Curve, num: u32, den: u32) -> Subdivision
     ensures { λ r. ⌜ r ≡ subdivided c num den ⌝ }
 {
     let refusal = call_refusal(c, num, den);
     if refusal.number != 0 {
-        let none = [zero_rect(); PLACES];
+        let none = zero_curve();
         return Subdivision {
             refusal,
-            left: Curve {
-                degree: 0,
-                points: none,
-            },
-            right: Curve {
-                degree: 0,
-                points: none,
-            },
+            left: none,
+            right: none,
         };
     }
     let table = table_of(c, num, den);
@@ -159,19 +136,30 @@ pub fn subdivide(c: Curve, num: u32, den: u32) -> Subdivision
     }
 }
 
+// The load at num/den, which is the last rectangle of the same table and the first one of the right piece; refusals 1 to 5.
+pub fn evaluate(c: Curve, num: u32, den: u32) -> Evaluation
+    ensures { λ r. ⌜ r ≡ evaluated c num den ⌝ }
+{
+    let pieces = subdivide(c, num, den);
+    let refusal = pieces.refusal;
+    let right = pieces.right;
+    let load = right.points[0];
+    Evaluation {
+        refusal,
+        load,
+        ohms: ohms_of(load),
+    }
+}
+
 // The same curve with its degree raised by one, each control point rounded outward once; refusals 1 to 3 and 6.
 pub fn elevate(c: Curve) -> Elevation
     ensures { λ r. ⌜ r ≡ elevated c ⌝ }
 {
     let refusal = elevation_refusal(c);
     if refusal.number != 0 {
-        let none = [zero_rect(); PLACES];
         return Elevation {
             refusal,
-            curve: Curve {
-                degree: 0,
-                points: none,
-            },
+            curve: zero_curve(),
         };
     }
     let points = raised_points(c);

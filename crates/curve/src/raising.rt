@@ -9,7 +9,7 @@ use crate::PLACES;
 use crate::Rect;
 use crate::affine::SCALE;
 use crate::affine::affine_rect;
-use crate::table::zero_rect;
+use crate::zeros::zero_rect;
 
 // The first and the last control point stay, since the absent neighbour has factor 0.
 pub fn raised_points(c: Curve) -> [Rect; PLACES]

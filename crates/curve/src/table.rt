@@ -1,30 +1,20 @@
 // De Casteljau's table of a curve, from which the load and both pieces are read.
 ghost use mathlib.Core.Path.{_≡_};
 ghost use Prim.Native.Nat.{_-_, _≤_};
-ghost use Rattle.curve.specs.Rect.{zeroRect};
 ghost use Rattle.curve.specs.Curve.{pointsOf, point, leftOf, rightOf};
 ghost use Rattle.curve.specs.Limits.{maxDegree};
 ghost use Rattle.curve.specs.Inner.{Factors, Ready};
 use crate::Curve;
-use crate::Interval;
 use crate::PLACES;
 use crate::Rect;
 use crate::affine::SCALE;
 use crate::affine::affine_rect;
+use crate::zeros::zero_rect;
 
 // The control points of both pieces.
 pub struct Table {
     pub left: [Rect; PLACES],
     pub right: [Rect; PLACES],
-}
-
-pub fn zero_rect() -> Rect
-    ensures { λ r. ⌜ r ≡ zeroRect ⌝ }
-{
-    Rect {
-        resistance: Interval { low: 0, high: 0 },
-        reactance: Interval { low: 0, high: 0 },
-    }
 }
 
 // The table before its first stage: the control points with zero in the places past the degree, and the left piece's first point.

@@ -7,6 +7,10 @@ ghost use Rattle.search.specs.Inner.{Due};
 use curve::Curve;
 use curve::Rect;
 use curve::Refusal;
+use curve::curve_refusal;
+use curve::first_of;
+use curve::is_from_one_to;
+use curve::refused_unless;
 
 mod boxes;
 mod step;
@@ -44,39 +48,17 @@ pub struct SearchAnswer {
 fn box_refusal(limits: Rect, depth: u32, budget: u32) -> Refusal
     ensures { λ r. ⌜ r ≡ boxRefusal limits depth budget ⌝ }
 {
-    if !is_box(limits) {
-        return Refusal {
-            number: 7,
-            place: 0,
-        };
-    }
-    if MAX_DEPTH < depth {
-        return Refusal {
-            number: 8,
-            place: 0,
-        };
-    }
-    if budget < 1 || MAX_BUDGET < budget {
-        return Refusal {
-            number: 9,
-            place: 0,
-        };
-    }
-    Refusal {
-        number: 0,
-        place: 0,
-    }
+    let first = refused_unless(is_box(limits), 7, 0);
+    let second = refused_unless(depth <= MAX_DEPTH, 8, 0);
+    let third = refused_unless(is_from_one_to(budget, MAX_BUDGET), 9, 0);
+    first_of(first, first_of(second, third))
 }
 
 // Refusals 1 to 3, then 7 to 9.
 fn search_refusal(c: Curve, limits: Rect, depth: u32, budget: u32) -> Refusal
     ensures { λ r. ⌜ r ≡ searchRefusal c limits depth budget ⌝ }
 {
-    let refusal = curve::curve_refusal(c);
-    if refusal.number != 0 {
-        return refusal;
-    }
-    box_refusal(limits, depth, budget)
+    first_of(curve_refusal(c), box_refusal(limits, depth, budget))
 }
 
 // The verdict once this piece is walked, with `below` depths below it, after the verdict on the pieces before it.

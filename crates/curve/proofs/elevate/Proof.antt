@@ -5,7 +5,7 @@ use Prim.Native.Nat.{_<_}
 use native.Mathlib.Omega.{arith}
 use borrow.Author.Needs.{needs}
 use Rattle.curve.specs.Limits.{maxDegree}
-use Rattle.curve.specs.Curve.{raisedOf, pointsOf, tabulate}
+use Rattle.curve.specs.Curve.{raisedOf}
 use Rattle.curve.specs.Refusals.{Accepted}
 use Rattle.curve.proofs.Refused.{number-refused, number-passed}
 use Rattle.curve.proofs.Accepted.{elevation-accepted, accepted-elevation, accepted-ready}
@@ -16,15 +16,14 @@ use Rattle.curve.proofs.elevate.Tie as tie
 elevation-refusal-requires : tie.Need-elevation-refusal-requires
 elevation-refusal-requires c κs = search needs
 
-zero-rect-requires : tie.Need-zero-rect-requires
-zero-rect-requires c κs = search needs
+zero-curve-requires : tie.Need-zero-curve-requires
+zero-curve-requires c κs = search needs
 
 returns : tie.Need-returns
-unfolding pointsOf tabulate
 returns c =
     let e = c .before .before .before .elevation-refusal .ensures in
     let a = c .before .before .before .before .args .c in
-    rw (c .zero-rect .ensures, e) (sym (elevated-refused a (number-refused e (c .before .if1 .taken))))
+    rw (c .zero-curve .ensures, e) (sym (elevated-refused a (number-refused e (c .before .if1 .taken))))
 
 -- past the test the curve is accepted, below the highest degree
 accepted : (c : tie.Else1) → Accepted (c .before .before .before .args .c) × (c .before .before .before .args .c .degree < maxDegree)
@@ -51,7 +50,7 @@ elevate-spec =
     tie.close
     (tie.spec
     elevation-refusal-requires
-    zero-rect-requires
+    zero-curve-requires
     returns
     raised-points-requires
     add-degree

@@ -2,7 +2,7 @@
 -- Assumes nothing.
 use mathlib.Core.Path.{sym, _∙_}
 use borrow.Author.Needs.{needs}
-use Rattle.curve.specs.Curve.{leftOf, rightOf, pointsOf, tabulate}
+use Rattle.curve.specs.Curve.{leftOf, rightOf}
 use Rattle.curve.specs.Refusals.{Accepted, AcceptedAt}
 use Rattle.curve.proofs.Refused.{number-refused, number-passed}
 use Rattle.curve.proofs.Accepted.{call-accepted, accepted-call, accepted-ready, parameter-facts}
@@ -13,15 +13,14 @@ use Rattle.curve.proofs.subdivide.Tie as tie
 call-refusal-requires : tie.Need-call-refusal-requires
 call-refusal-requires c κs = search needs
 
-zero-rect-requires : tie.Need-zero-rect-requires
-zero-rect-requires c κs = search needs
+zero-curve-requires : tie.Need-zero-curve-requires
+zero-curve-requires c κs = search needs
 
 returns : tie.Need-returns
-unfolding pointsOf tabulate
 returns c =
     let e = c .before .before .before .call-refusal .ensures in
     let a = c .before .before .before .before .args in
-    rw (c .zero-rect .ensures, e) (sym (subdivided-refused (a .c) (a .num) (a .den) (number-refused e (c .before .if1 .taken))))
+    rw (c .zero-curve .ensures, e) (sym (subdivided-refused (a .c) (a .num) (a .den) (number-refused e (c .before .if1 .taken))))
 
 -- past the test the curve and the parameter are accepted
 accepted : (c : tie.Else1) →
@@ -47,4 +46,4 @@ returns-2 c =
 pub subdivide-spec : {M : Type 1} → statement M
 subdivide-spec =
     tie.close
-    (tie.spec call-refusal-requires zero-rect-requires returns table-of-requires returns-2)
+    (tie.spec call-refusal-requires zero-curve-requires returns table-of-requires returns-2)

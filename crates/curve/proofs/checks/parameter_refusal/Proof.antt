@@ -1,30 +1,32 @@
--- `parameter_refusal` meets its contract: each test is the definition's.
+-- `parameter_refusal` meets its contract: the two tests are the definition's.
 -- Assumes nothing.
-use mathlib.Core.Logic.{⊎-elim}
-use borrow.Author.Tests.{lt-leb, le-leb}
-use Rattle.curve.specs.Limits.{maxDen}
-use Rattle.curve.specs.Refusals.{parameterRefusal}
-use Rattle.curve.proofs.Machine.{too-low, too-high, between}
+use mathlib.Core.Path.{ap, ap₂, _∙_}
+use mathlib.Core.Bool.{Bool}
+use borrow.Author.Needs.{needs}
+use Rattle.curve.specs.Refusals.{_orElse_, unless, parameterRefusal}
 use Rattle.curve.proofs.checks.parameter_refusal.Statement.{statement}
 use Rattle.curve.proofs.checks.parameter_refusal.Tie as tie
+
+is-from-one-to-requires : tie.Need-is-from-one-to-requires
+is-from-one-to-requires c κs = search needs
+
+refused-unless-requires : tie.Need-refused-unless-requires
+refused-unless-requires c κs = search needs
+
+refused-unless-requires-2 : tie.Need-refused-unless-requires-2
+refused-unless-requires-2 c κs = search needs
+
+first-of-requires : tie.Need-first-of-requires
+first-of-requires c κs = search needs
 
 returns : tie.Need-returns
 unfolding parameterRefusal
 returns c =
-    let den = c .before .args .den in
-    ⊎-elim (λ w. rw (too-low maxDen den (w .taken))) (λ w. rw (too-high maxDen den (w .0 .left) (w .1 .taken))) (c .if1 .came)
-
-returns-2 : tie.Need-returns-2
-unfolding parameterRefusal
-returns-2 c =
-    let a = c .before .before .before .args in
-    rw (between maxDen (a .den) (c .before .before .if1 .left) (c .before .if2 .left), lt-leb (a .num) (a .den) (c .if3 .taken))
-
-returns-3 : tie.Need-returns-3
-unfolding parameterRefusal
-returns-3 c =
-    let a = c .before .before .before .args in
-    rw (between maxDen (a .den) (c .before .before .if1 .left) (c .before .if2 .left), le-leb (a .num) (a .den) (c .if3 .left))
+    let first = c .before .before in
+    c .first-of .ensures
+    ∙ ap₂ _orElse_ (first .refused-unless .ensures ∙ ap (λ (b : Bool). unless b 4) (first .before .is-from-one-to .ensures)) (c .before .refused-unless2 .ensures)
 
 pub parameter-refusal-spec : {M : Type 1} → statement M
-parameter-refusal-spec = tie.close (tie.spec returns returns-2 returns-3)
+parameter-refusal-spec =
+    tie.close
+    (tie.spec is-from-one-to-requires refused-unless-requires refused-unless-requires-2 first-of-requires returns)
