@@ -30,7 +30,7 @@ zero-ohms : ohmsOf zeroRect ≡ zeroOhms
 unfolding ohmsOf ohm div ofInt
 zero-ohms = refl
 
-zero-held : Held zeroRect
+pub zero-held : Held zeroRect
 zero-held = record { at = λ x. record { at = λ r. go x r } }
   where
     go : (x : Coordinate) (r : Rounding) → Side (side x r zeroRect)

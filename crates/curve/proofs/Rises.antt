@@ -56,19 +56,17 @@ weighed s t a b n e =
     ∙ weigh (pos s) (pos t) a (pos n)
     ∙ ap₂ (λ (x y : ℤ). x +ℤ a *ℤ y) (pos-*ℤ-pos t n) (pos-+ℤ-pos s t)
 
-pub rising-up : (s t : ℕ) (a b : ℤ) → Side a → (d : Distance a b) → Rising a b s t a (d .by) t
-rising-up s t a b ha d = record { sum = weighed s t a b (d .by) (d .reaches); near = d .near; light = omega arith; start = ha }
+pub rising : (s t : ℕ) (a b : ℤ) → Side a → (d : Distance a b) → Rising a b s t a (d .by) t
+rising s t a b ha d = record { sum = weighed s t a b (d .by) (d .reaches); near = d .near; light = omega arith; start = ha }
 
-pub rising-down : (s t : ℕ) (a b : ℤ) → Side b → (d : Distance b a) → Rising a b s t b (d .by) s
-rising-down s t a b hb d =
+-- the two sides may be named in either order
+pub rising-swap : {a b from : ℤ} {s t by factor : ℕ} → Rising a b s t from by factor → Rising b a t s from by factor
+rising-swap {a} {b} {from} {s} {t} {by} {factor} h =
     record {
-      sum =
-          +ℤ-comm (pos s *ℤ a) (pos t *ℤ b)
-          ∙ weighed t s b a (d .by) (d .reaches)
-          ∙ ap (λ (m : ℕ). pos (s * d .by) +ℤ b *ℤ pos m) (add-comm t s);
-      near = d .near;
-      light = omega arith;
-      start = hb;
+      sum = +ℤ-comm (pos t *ℤ b) (pos s *ℤ a) ∙ h .sum ∙ ap (λ (m : ℕ). pos (factor * by) +ℤ from *ℤ pos m) (add-comm s t);
+      near = h .near;
+      light = let l = h .light in omega arith;
+      start = h .start;
     }
 
 -- ---- the quotient

@@ -1,7 +1,8 @@
 // The affine map of two sides, intervals and rectangles, rounded outward.
 // A map is counted from the lower of its two sides, so that its quotient is one of natural numbers and at most twice the largest side.
 ghost use mathlib.Core.Path.{_≡_};
-ghost use Prim.Native.Nat.{_/_};
+ghost use Prim.Native.Nat.{ℕ, _/_};
+ghost use lib.Signed.{_≤ℤ_};
 ghost use Rattle.bernstein.specs.Affine.{affine};
 ghost use Rattle.curve.specs.Rect.{affineInterval, affineRect};
 ghost use Rattle.curve.specs.Inner.{Side, Sides, Held, Factors, Rising, Dividing, inverseOf, roundingOf};
@@ -18,25 +19,26 @@ struct Rise {
     factor: u64,
 }
 
+// The rise from a side to one that is not below it, whose factor is given.
+fn rise_between(from: i32, to: i32, factor: u64) -> Rise
+    requires { ⌜ Side from ⌝ }
+    requires { ⌜ Side to ⌝ }
+    requires { ⌜ from ≤ℤ to ⌝ }
+    ensures { λ r. ⌜ ((other : ℕ) → Rising from to other factor (r .from) (r .by) (r .factor)) ⌝ }
+{
+    let by = (to - from) as u64;
+    Rise { from, by, factor }
+}
+
 fn rise_of(a: i32, b: i32, s: u64, t: u64) -> Rise
     requires { ⌜ Side a ⌝ }
     requires { ⌜ Side b ⌝ }
     ensures { λ r. ⌜ Rising a b s t (r .from) (r .by) (r .factor) ⌝ }
 {
     if a <= b {
-        let by = (b - a) as u64;
-        return Rise {
-            from: a,
-            by,
-            factor: t,
-        };
+        return rise_between(a, b, t);
     }
-    let by = (a - b) as u64;
-    Rise {
-        from: b,
-        by,
-        factor: s,
-    }
+    rise_between(b, a, s)
 }
 
 // n / den without a division by den, which is slow: two estimates from below, the second of what the first left, and one correction.

@@ -10,7 +10,7 @@ use lib.IntN.{ℤ, pos, _+ℤ_}
 use mir.Syntax.{w32}
 use mir.Val.{SFits}
 use Rattle.bernstein.specs.Affine.{affine}
-use Rattle.curve.specs.Inner.{Rising, Dividing, roundingOf}
+use Rattle.curve.specs.Inner.{Side, Rising, Dividing, roundingOf}
 use Rattle.curve.proofs.Machine.{back}
 use Rattle.curve.proofs.Sides.{side-back, side-fits}
 use Rattle.curve.proofs.Stages.{affine-side-held}
@@ -74,7 +74,7 @@ steps-fit c =
 cast-result : tie.Need-cast-result
 cast-result c = steps-fit c
 
--- the sum is the map, which is a side
+-- the sum is the map
 reached : (c : tie.After-divided) →
     let j = c .before .before .before in
     let a = j .before .before .args in
@@ -87,23 +87,26 @@ reached c =
     ∙ ap (λ (l : ℕ). r .from +ℤ pos ((r .factor * r .by + l) / a .den)) (lifted j)
     ∙ risen (a .den) (j .before .before .pre .1 .1 .0) (rising (j .before)) (a .up)
 
+-- which is a side
+landed : (c : tie.After-divided) →
+    let j = c .before .before .before in
+    let a = j .before .before .args in
+    Side (affine (roundingOf (a .up)) (a .s) (a .t) (a .den) (a .a) (a .b))
+landed c =
+    let j = c .before .before .before in
+    let a = j .before .before .args in
+    let p = j .before .before .pre in
+    affine-side-held (roundingOf (a .up)) (a .s) (a .t) (a .den) (a .a) (a .b) (p .1 .1 .0) (p .0) (p .1 .0)
+
 add-result : tie.Need-add-result
 add-result c =
     let v = c .before .before in
-    let j = v .before .before .before in
-    let a = j .before .before .args in
-    let p = j .before .before .pre in
-    rw (side-back (rising (j .before) .start), back (steps-fit v), reached v)
-    (side-fits (affine-side-held (roundingOf (a .up)) (a .s) (a .t) (a .den) (a .a) (a .b) (p .1 .1 .0) (p .0) (p .1 .0)))
+    rw (side-back (rising (v .before .before .before .before) .start), back (steps-fit v), reached v) (side-fits (landed v))
 
 returns : tie.Need-returns
 returns c =
     let v = c .before .before in
-    let j = v .before .before .before in
-    let a = j .before .before .args in
-    let p = j .before .before .pre in
-    rw (side-back (rising (j .before) .start), back (steps-fit v), reached v)
-    (side-back (affine-side-held (roundingOf (a .up)) (a .s) (a .t) (a .den) (a .a) (a .b) (p .1 .1 .0) (p .0) (p .1 .0)))
+    rw (side-back (rising (v .before .before .before .before) .start), back (steps-fit v), reached v) (side-back (landed v))
 
 pub affine-side-spec : {M : Type 1} → statement M
 affine-side-spec =
