@@ -10,7 +10,7 @@ use Rattle.rational.proofs.Division.{ratio, ratio-nonneg, ratio-weights}
 use Rattle.bernstein.specs.DeCasteljau.{table}
 use Rattle.bernstein.proofs.Semiring.{Semiring, polynomial, plus-assoc, one-times}
 use Rattle.bernstein.proofs.Exact.{mix}
-use Rattle.bernstein.proofs.Table.{table-relation, table-property}
+use Rattle.bernstein.proofs.Table.{table-property}
 use Rattle.bernstein.proofs.Rationals.{rationals}
 
 -- x is at most y + c
@@ -82,12 +82,6 @@ module _ {s t : ℚ} (convex : Convex s t) where
   mix-excess {x} {y} c p q = record {
     bound = subst (λ w. mix rationals s t x y ≤ℚ w) (mix-shift rationals s t _ _ _ (convex .unit)) (mix-mono (p .bound) (q .bound));
   }
-
-  -- what one sequence exceeds another by, its table exceeds the other's by at most
-  pub table-excess :
-      {P Q : ℕ → ℚ} (c n : ℕ) → ((k : ℕ) → k ≤ n → Excess c (P k) (Q k)) →
-      (j k : ℕ) → j + k ≤ n → Excess c (table (mix rationals s t) P j k) (table (mix rationals s t) Q j k)
-  table-excess c = table-relation (λ j. Excess c) (λ j a b x y. mix-excess c)
 
   -- a bound on the points is a bound on the table
   pub table-least :

@@ -1,22 +1,18 @@
 -- A curve over the rational numbers as a function of its parameter: its pieces and its raised form are the curve itself, and its value is the Bernstein sum.
 -- Assumes nothing.
-use Prim.Native.Nat.{ℕ, suc, _≤_, _<_}
-use native.Mathlib.Omega.{arith}
+use Prim.Native.Nat.{ℕ, suc, _<_}
 use mathlib.Core.Path.{_≡_, sym, ap, _∙_}
 use lib.IntN.{pos}
 use Rattle.rational.specs.Fraction.{Frac}
 use Rattle.rational.proofs.Rational.{ℚ, rat, rat-complement, embed, _+ℚ_, _-ℚ_, _*ℚ_, +ℚ-cancel, -ℚ-cancel}
-use Rattle.rational.proofs.RationalOrder.{_≤ℚ_}
 use Rattle.bernstein.specs.DeCasteljau.{value, left, right}
 use Rattle.bernstein.specs.Bernstein.{bernstein}
 use Rattle.bernstein.proofs.Semiring.{Semiring, polynomial}
 use Rattle.bernstein.proofs.Exact.{mix}
-use Rattle.bernstein.proofs.Table.{table-agree}
 use Rattle.bernstein.proofs.Raised.{raised}
 use Rattle.bernstein.proofs.Subdivision.{left-value, right-value}
 use Rattle.bernstein.proofs.Elevation.{raised-value}
 use Rattle.bernstein.proofs.Rationals.{rationals, mean, mean-weighted, one-ratio, bernstein-value}
-use Rattle.bernstein.proofs.Convex.{Excess, convex-parameter, table-excess}
 
 -- the value at x of the curve of degree n
 unfoldable pub curve : (ℕ → ℚ) → ℕ → ℚ → ℚ
@@ -26,18 +22,6 @@ curve P n x = value (mix rationals (embed (pos 1) -ℚ x) x) P n
 pub curve-at : (P : ℕ → ℚ) (n : ℕ) (s t : ℚ) → s +ℚ t ≡ embed (pos 1) → value (mix rationals s t) P n ≡ curve P n t
 unfolding curve
 curve-at P n s t h = ap (λ a. value (mix rationals a t) P n) (sym (+ℚ-cancel s t) ∙ ap (λ a. a -ℚ t) h)
-
--- only the points as far as n are looked at
-pub curve-agree : {P Q : ℕ → ℚ} (n : ℕ) (x : ℚ) → ((k : ℕ) → k ≤ n → P k ≡ Q k) → curve P n x ≡ curve Q n x
-unfolding curve value
-curve-agree n x h = table-agree _ n h n 0 (omega arith)
-
--- what one sequence exceeds another by, its curve from 0 to 1 exceeds the other's by at most
-pub curve-excess :
-    {P Q : ℕ → ℚ} (c n : ℕ) {x : ℚ} → embed (pos 0) ≤ℚ x → x ≤ℚ embed (pos 1) →
-    ((k : ℕ) → k ≤ n → Excess c (P k) (Q k)) → Excess c (curve P n x) (curve Q n x)
-unfolding curve value
-curve-excess c n l u h = table-excess (convex-parameter l u) c n h n 0 (omega arith)
 
 pub bernstein-curve : (n : ℕ) (p : ℕ → Frac) (x : Frac) → rat (bernstein n p x) ≡ curve (λ k. rat (p k)) n (rat x)
 unfolding curve

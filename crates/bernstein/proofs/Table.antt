@@ -1,7 +1,7 @@
 -- Laws of de Casteljau's table over any kind of point and any map of two points.
 -- Assumes nothing.
 use Prim.Native.Nat.{ℕ, zero, suc, _+_, _≤_}
-use native.Mathlib.Nat.{le-refl, zero-add, suc-add, sub-self, sub-zero}
+use native.Mathlib.Nat.{le-refl, zero-add, suc-add, sub-zero}
 use native.Mathlib.Numerals.{add-one}
 use native.Mathlib.Omega.{arith}
 use mathlib.Core.Path.{_≡_, refl, sym, ap, ap₂, _∙_}
@@ -79,7 +79,3 @@ module _ {A : Type 0} (f : A → A → A) where
     pub right-first : (n : ℕ) → right f P n 0 ≡ value f P n
     unfolding right value
     right-first n = rw sub-zero
-
-    pub right-last : (n : ℕ) → right f P n n ≡ P n
-    unfolding right
-    right-last n = rw sub-self (table-zero P n)

@@ -1,9 +1,9 @@
 -- The answers of the public calls by whether they are refused: the refusal, the results where number 0 says that nothing was refused, and zeros otherwise.
 -- Assumes nothing.
-use mathlib.Core.Path.{_≡_, refl, ap, subst, sym}
+use mathlib.Core.Path.{_≡_, refl, ap}
 use mathlib.Core.Bool.{Bool, true, false, cond}
 use Prim.Native.Nat.{ℕ, _<_}
-use lib.Dec.{T, eqb, eqb→eq}
+use lib.Dec.{eqb}
 use Rattle.curve.specs.declared.Curve.{Curve}
 use Rattle.curve.specs.declared.Rect.{Rect}
 use Rattle.curve.specs.declared.Refusal.{Refusal}
@@ -18,14 +18,6 @@ use Rattle.curve.specs.Ohms.{ohmsOf, zeroOhms}
 use Rattle.curve.specs.Refusals.{none, curveRefusal, Accepted, AcceptedAt}
 use Rattle.curve.specs.Calls.{callRefusal, elevationRefusal, evaluated, subdivided, elevated, bounded}
 use Rattle.curve.proofs.Accepted.{accepted-call, accepted-elevation}
-
--- a number that is not 0 fails the test
-pub not-zero : (n : ℕ) → ¬ (n ≡ 0) → eqb n 0 ≡ false
-not-zero n h = go (eqb n 0) refl
-  where
-    go : (b : Bool) → eqb n 0 ≡ b → eqb n 0 ≡ false
-    go true e = absurd (h (eqb→eq n 0 (subst T (sym e) tt)))
-    go false e = e
 
 -- an answer chosen by a refusal's number: its value where nothing is refused, where something is, and what both share
 module _ {A : Type 0} (result zeros : Refusal → A) (r : Refusal) where

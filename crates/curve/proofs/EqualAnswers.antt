@@ -1,17 +1,18 @@
 -- Equal refusals and equal results give equal answers, and a record's places depend only on the points as far as the degree.
 -- Assumes nothing.
-use mathlib.Core.Path.{_≡_, refl, ap, ap₂, fun-ext}
-use mathlib.Core.Bool.{Bool, true, false, cond}
+use mathlib.Core.Path.{_≡_, ap, ap₂}
+use mathlib.Core.Bool.{cond}
+use mathlib.Core.List.{List}
 use Prim.Native.Nat.{ℕ, _≤_}
-use lib.Dec.{T, leb, eqb, leb→le}
+use lib.Dec.{eqb}
 use Rattle.curve.specs.declared.Rect.{Rect}
 use Rattle.curve.specs.declared.Curve.{Curve}
 use Rattle.curve.specs.declared.Refusal.{Refusal}
-use Rattle.curve.specs.Limits.{places}
 use Rattle.curve.specs.Rect.{zeroRect}
-use Rattle.curve.specs.Curve.{tabulate, pointsOf, curveOf, zeroCurve, loadOf, leftOf, rightOf, raisedOf, boundsOf}
+use Rattle.curve.specs.Curve.{curveOf, zeroCurve, loadOf, leftOf, rightOf, raisedOf, boundsOf}
 use Rattle.curve.specs.Refusals.{curveRefusal}
 use Rattle.curve.specs.Calls.{callRefusal, elevationRefusal, evaluated, subdivided, elevated, bounded}
+use Rattle.curve.proofs.Places.{points-agree}
 use Rattle.curve.proofs.Answers.{evaluation, noEvaluation, subdivision, elevation, enclosure}
 
 module _ (c e : Curve) (num den num′ den′ : ℕ) (refusals : callRefusal c num den ≡ callRefusal e num′ den′) where
@@ -37,9 +38,4 @@ module _ (c e : Curve) where
 
 -- curves of one degree whose points agree as far as that degree
 pub curveOf-equal : (n : ℕ) (f g : ℕ → Rect) → ((k : ℕ) → k ≤ n → f k ≡ g k) → curveOf n f ≡ curveOf n g
-unfolding pointsOf
-curveOf-equal n f g agree = ap (λ (h : ℕ → Rect). record { degree = n; points = tabulate places h }) (fun-ext (λ k. at k (leb k n) (leb→le k n)))
-  where
-    at : (k : ℕ) (b : Bool) → (T b → k ≤ n) → cond b (f k) zeroRect ≡ cond b (g k) zeroRect
-    at k true h = agree k (h tt)
-    at k false h = refl
+curveOf-equal n f g agree = ap (λ (l : List Rect). record { degree = n; points = l }) (points-agree n f g agree)

@@ -1,7 +1,7 @@
 -- Whole numbers divided by natural numbers, as rational numbers, and how far a rounded quotient lies from the exact one.
 -- Assumes nothing.
 use mathlib.Core.Path.{_≡_, refl, sym, _∙_, ap, ap₂, subst, subst₂}
-use Prim.Native.Nat.{ℕ, zero, suc, _+_, _≤_, _<_}
+use Prim.Native.Nat.{ℕ, zero, suc, _+_, _<_}
 use native.Mathlib.Omega.{arith}
 use lib.Dec.{lit≤}
 use lib.IntN.{ℤ, pos, _+ℤ_, _*ℤ_, zero-*ℤ}
@@ -12,7 +12,7 @@ use Rattle.rational.proofs.Whole.{mul-assoc, one-mul}
 use Rattle.rational.proofs.Order.{pos-mono, *ℤ-mono}
 use Rattle.rational.proofs.Quotient.{above, below, quotient-upper, quotient-lower}
 use Rattle.rational.proofs.Rational.{rational-ring, ℚ, rat, rat-equal, rat-mul, _+ℚ_, _*ℚ_, embed, embed-add, embed-mul, *ℚ-one, *ℚ-comm, *ℚ-assoc, *ℚ-distrib-right}
-use Rattle.rational.proofs.RationalOrder.{_≤ℚ_, ≤ℚ-of, *ℚ-mono-right, *ℚ-nonneg, embed-mono}
+use Rattle.rational.proofs.RationalOrder.{_≤ℚ_, ≤ℚ-of, *ℚ-nonneg, embed-mono}
 
 module _ (d : ℕ) (positive : 0 < d) where
   -- z / d
@@ -62,13 +62,6 @@ module _ (d : ℕ) (positive : 0 < d) where
 
   pub ratio-nonneg : (n : ℕ) → embed (pos 0) ≤ℚ ratio (pos n)
   ratio-nonneg n = subst (λ x. x ≤ℚ ratio (pos n)) (ap ratio (sym (zero-*ℤ (pos d))) ∙ ratio-whole (pos 0)) (ratio-mono (pos-mono (omega arith)))
-
-  pub ratio-le-one : (n : ℕ) → n ≤ d → ratio (pos n) ≤ℚ embed (pos 1)
-  ratio-le-one n h = subst (λ x. ratio (pos n) ≤ℚ x) (ap ratio (sym (one-mul (pos d))) ∙ ratio-whole (pos 1)) (ratio-mono (pos-mono h))
-
-  -- a factor d is left out
-  pub ≤ℚ-cancel : {x y : ℚ} → x *ℚ embed (pos d) ≤ℚ y *ℚ embed (pos d) → x ≤ℚ y
-  ≤ℚ-cancel {x} {y} h = subst₂ (λ a b. a ≤ℚ b) (cancel x) (cancel y) (*ℚ-mono-right (ratio-nonneg 1) h)
 
   -- ---- rounding
 

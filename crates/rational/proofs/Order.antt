@@ -100,13 +100,6 @@ pub ≤ℤ-antisymm : {a b : ℤ} → a ≤ℤ b → b ≤ℤ a → a ≡ b
 pub test-yes : {a b : ℤ} → leZ a b ≡ true → a ≤ℤ b
 test-yes h = leZ-yes (subst T (sym h) tt)
 
-pub yes-test : {a b : ℤ} → a ≤ℤ b → leZ a b ≡ true
-yes-test {a} {b} h = true-of (leZ a b) (h .le)
-  where
-    true-of : (c : Bool) → T c → c ≡ true
-    true-of true t = refl
-    true-of false t = absurd t
-
 fails : (a b : ℤ) → T (not (leZ a b)) → T (ltZ b a)
 fails (pos a) (pos b) t = lt→ltb b a (nleb→lt a b t)
 fails (pos a) (negsuc b) t = tt
@@ -161,9 +154,6 @@ pub +ℤ-mono : {a b c d : ℤ} → a ≤ℤ b → c ≤ℤ d → (a +ℤ c) ≤
 
 pub +ℤ-cancel-left : {a b : ℤ} (c : ℤ) → (c +ℤ a) ≤ℤ (c +ℤ b) → a ≤ℤ b
 +ℤ-cancel-left {a} {b} c h = ≤ℤ-certificate h (simp (+ℤ-comm, add-left-comm))
-
-pub +ℤ-cancel-right : {a b : ℤ} (c : ℤ) → (a +ℤ c) ≤ℤ (b +ℤ c) → a ≤ℤ b
-+ℤ-cancel-right {a} {b} c h = ≤ℤ-certificate h (simp add-left-comm)
 
 pub negℤ-anti : {a b : ℤ} → a ≤ℤ b → negℤ b ≤ℤ negℤ a
 negℤ-anti {a} {b} h = ≤ℤ-certificate h (+ℤ-invl b ∙ sym (+ℤ-invl a))

@@ -3,12 +3,13 @@
 use mathlib.Core.Path.{_≡_, refl, sym, _∙_, ap, subst, subst₂}
 use mathlib.Core.Logic.{inl, inr}
 use Prim.Native.Nat.{ℕ, zero, suc, _+_, _*_, _-_, _/_, _<_}
-use native.Mathlib.Nat.{div-mul-le-self, lt-div-mul-add, div-eq-of-lt, zero-div, add-div-right, mul-pos}
+use native.Mathlib.Nat.{div-mul-le-self, lt-div-mul-add, div-eq-of-lt, zero-div, add-div-right}
 use native.Mathlib.Numerals.{add-one}
 use native.Mathlib.Omega.{arith}
 use lib.IntN.{ℤ, pos, negsuc, negℤ, _+ℤ_, _*ℤ_, +ℤ-assoc, +ℤ-comm, +ℤ-idl, +ℤ-invl, *ℤ-comm, negℤ-+ℤ, negℤ-negℤ, +ℤ-negℤ-cancel}
-use lib.Signed.{_≤ℤ_, _<ℤ_, ≤ℤ-refl, clashℤ}
+use lib.Signed.{_≤ℤ_, ≤ℤ-refl, clashℤ}
 use Rattle.rational.specs.Rounding.{Rounding, down, up, floor, ceiling, quotient}
+use Rattle.rational.specs.Promises.{RoundsDown, RoundsUp}
 use Rattle.rational.proofs.Whole.{add-mul, add-left-comm, mul-assoc, neg-mul, one-mul}
 use Rattle.rational.proofs.Order.{≤ℤ-trans, ≤ℤ-antisymm, ≤ℤ-reflexive, ≤ℤ-certificate, ≤ℤ-increase, ≤ℤ-or-<ℤ, <ℤ-suc, suc-<ℤ, pos-mono, negℤ-anti, +ℤ-mono, +ℤ-mono-right, *ℤ-mono, *ℤ-mono-left, *ℤ-cancel}
 
@@ -80,11 +81,11 @@ module _ (d : ℕ) (positive : 0 < d) where
 
   -- ---- both roundings
 
-  pub down-below : (z : ℤ) → (quotient down z d *ℤ pos d) ≤ℤ z
+  down-below : (z : ℤ) → (quotient down z d *ℤ pos d) ≤ℤ z
   unfolding quotient
   down-below z = floor-below z
 
-  pub up-above : (z : ℤ) → z ≤ℤ (quotient up z d *ℤ pos d)
+  up-above : (z : ℤ) → z ≤ℤ (quotient up z d *ℤ pos d)
   unfolding quotient
   up-above z = ceiling-above z
 
@@ -101,15 +102,6 @@ module _ (d : ℕ) (positive : 0 < d) where
   unfolding quotient
   quotient-lower down z = ≤ℤ-trans (≤ℤ-increase z 1) (subst (λ x. (z +ℤ pos 1) ≤ℤ (floor z d *ℤ pos d +ℤ x)) (sym (one-mul (pos d))) (floor-above z))
   quotient-lower up z = ≤ℤ-trans (ceiling-above z) (≤ℤ-increase (ceiling z d *ℤ pos d) (0 * d))
-
-  -- strictly within one of the exact quotient
-  pub down-strict : (z : ℤ) → z <ℤ ((quotient down z d +ℤ pos 1) *ℤ pos d)
-  unfolding quotient
-  down-strict z = suc-<ℤ (≤ℤ-trans (floor-above z) (≤ℤ-reflexive (next (floor z d))))
-
-  pub up-strict : (z : ℤ) → (quotient up z d *ℤ pos d) <ℤ (z +ℤ pos d)
-  unfolding quotient
-  up-strict z = suc-<ℤ (ceiling-below z)
 
   -- a whole number at most the exact quotient is at most the rounded one, and one at least the exact quotient at least the rounded one
   pub quotient-greatest : (r : Rounding) (m z : ℤ) → (m *ℤ pos d) ≤ℤ z → m ≤ℤ quotient r z d
@@ -193,12 +185,6 @@ quotient-equal r d e d-positive e-positive z w h = ≤ℤ-antisymm
     (quotient-mono-cross r d e d-positive e-positive z w (≤ℤ-reflexive h))
     (quotient-mono-cross r e d e-positive d-positive w z (≤ℤ-reflexive (sym h)))
 
-pub quotient-scale : (r : Rounding) (d e : ℕ) → 0 < d → 0 < e → (z : ℤ) → quotient r (z *ℤ pos e) (d * e) ≡ quotient r z d
-quotient-scale r d e d-positive e-positive z = quotient-equal r (d * e) d (mul-pos d-positive e-positive) d-positive (z *ℤ pos e) z (regroup z (pos d) (pos e))
-  where
-    regroup : (a b c : ℤ) → a *ℤ c *ℤ b ≡ a *ℤ (b *ℤ c)
-    regroup a b c = simp (mul-assoc, *ℤ-comm)
-
 -- ---- convex combinations
 
 pub convex-mono : (r : Rounding) (s t d : ℕ) → 0 < d → {a b a′ b′ : ℤ} → a ≤ℤ a′ → b ≤ℤ b′ → quotient r (pos s *ℤ a +ℤ pos t *ℤ b) d ≤ℤ quotient r (pos s *ℤ a′ +ℤ pos t *ℤ b′) d
@@ -216,3 +202,11 @@ module _ (r : Rounding) (s t d : ℕ) (whole-weight : s + t ≡ d) (positive : 0
   pub convex-upper : (high a b : ℤ) → a ≤ℤ high → b ≤ℤ high → quotient r (pos s *ℤ a +ℤ pos t *ℤ b) d ≤ℤ high
   convex-upper high a b h k = quotient-least d positive r high (pos s *ℤ a +ℤ pos t *ℤ b)
       (≤ℤ-trans (+ℤ-mono (*ℤ-mono-left s h) (*ℤ-mono-left t k)) (≤ℤ-reflexive (sym (same high))))
+
+-- ---- the promises
+
+pub rounds-down : RoundsDown
+rounds-down d positive z = (down-below d positive z, λ m. quotient-greatest d positive down m z)
+
+pub rounds-up : RoundsUp
+rounds-up d positive z = (up-above d positive z, λ m. quotient-least d positive up m z)

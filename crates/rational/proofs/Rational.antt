@@ -213,13 +213,6 @@ pub +ℚ-cancel : (x y : ℚ) → x +ℚ y -ℚ y ≡ x
 pub -ℚ-cancel : (x y : ℚ) → x -ℚ y +ℚ y ≡ x
 -ℚ-cancel x y = +ℚ-assoc x (negℚ y) y ∙ ap (λ u. x +ℚ u) (+ℚ-comm (negℚ y) y ∙ +ℚ-invr y) ∙ +ℚ-zero x
 
--- −x is the number whose sum with x is 0
-pub negℚ-unique : (x y : ℚ) → x +ℚ y ≡ embed (pos 0) → x ≡ negℚ y
-negℚ-unique x y h = sym (+ℚ-cancel x y) ∙ ap (λ u. u -ℚ y) h ∙ zero-+ℚ (negℚ y)
-
-pub negℚ-*ℚ : (x y : ℚ) → negℚ x *ℚ y ≡ negℚ (x *ℚ y)
-negℚ-*ℚ x y = negℚ-unique (negℚ x *ℚ y) (x *ℚ y) (sym (*ℚ-distrib-right (negℚ x) x y) ∙ ap (λ u. u *ℚ y) (+ℚ-comm (negℚ x) x ∙ +ℚ-invr x) ∙ zero-*ℚ y)
-
 pub rat-complement : (a : Frac) → rat (complement a) ≡ embed (pos 1) -ℚ rat a
 unfolding ℚ rat _+ℚ_ _+ᶠ_ negℚ opposite embed whole complement
 rat-complement a = rat-equal (complement a) (whole (pos 1) +ᶠ opposite a) (law (a .upper) (pos (a .lower)))
@@ -240,7 +233,3 @@ embed-add a b = rat-equal (whole (a +ℤ b)) (whole a +ᶠ whole b) (ap (λ x. x
 pub embed-mul : (a b : ℤ) → embed (a *ℤ b) ≡ embed a *ℚ embed b
 unfolding ℚ rat _*ℚ_ _*ᶠ_ embed whole
 embed-mul a b = rat-equal (whole (a *ℤ b)) (whole a *ᶠ whole b) refl
-
-pub embed-neg : (a : ℤ) → embed (negℤ a) ≡ negℚ (embed a)
-unfolding ℚ rat negℚ opposite embed whole
-embed-neg a = refl

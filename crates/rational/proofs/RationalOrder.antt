@@ -11,8 +11,8 @@ use lib.IntN.{ℤ, pos, _+ℤ_, _*ℤ_, zero-*ℤ}
 use lib.Signed.{_≤ℤ_, ≤ℤ-refl, leZ, leZ-yes}
 use Rattle.rational.specs.Fraction.{Frac, _≤ᶠ_, _+ᶠ_, _*ᶠ_, whole}
 use Rattle.rational.proofs.Whole.{integer-ring, mul-one}
-use Rattle.rational.proofs.Order.{≤ℤ-certificate, ≤ℤ-trans, ≤ℤ-antisymm, ≤ℤ-reflexive, *ℤ-mono, *ℤ-mono-nonneg, *ℤ-cancel}
-use Rattle.rational.proofs.Rational.{ℚ, ℚ-set, rat, rat-equal, Equal, fractions, by-fractions, by-fractions₂, by-fractions₃, rat-add, rat-mul, _+ℚ_, _*ℚ_, embed, negℚ, +ℚ-comm, +ℚ-cancel, +ℚ-invr, *ℚ-comm, zero-*ℚ}
+use Rattle.rational.proofs.Order.{≤ℤ-certificate, ≤ℤ-trans, ≤ℤ-reflexive, *ℤ-mono, *ℤ-mono-nonneg, *ℤ-cancel}
+use Rattle.rational.proofs.Rational.{ℚ, rat, Equal, fractions, by-fractions, by-fractions₃, rat-add, rat-mul, _+ℚ_, _*ℚ_, embed, +ℚ-comm, *ℚ-comm, zero-*ℚ}
 
 keeps : (a b a′ b′ : Frac) → Equal a a′ → Equal b b′ → a ≤ᶠ b → a′ ≤ᶠ b′
 keeps a b a′ b′ h k l = record {
@@ -78,10 +78,6 @@ unfolding ℚ rat test at-most
 pub ≤ℚ-refl : (x : ℚ) → x ≤ℚ x
 ≤ℚ-refl = by-fractions (λ x. x ≤ℚ x) (λ x. ≤ℚ-prop x x) (λ a. ≤ℚ-of (record { crosswise = ≤ℤ-refl (a .upper *ℤ pos (a .lower)) }))
 
-pub ≤ℚ-antisymm : {x y : ℚ} → x ≤ℚ y → y ≤ℚ x → x ≡ y
-≤ℚ-antisymm {x} {y} = by-fractions₂ (λ x y. x ≤ℚ y → y ≤ℚ x → x ≡ y) (λ x y. →-prop (→-prop (ℚ-set x y)))
-    (λ a b h k. rat-equal a b (≤ℤ-antisymm (≤ᶠ-of a b h .crosswise) (≤ᶠ-of b a k .crosswise))) x y
-
 pub ≤ℚ-trans : {x y z : ℚ} → x ≤ℚ y → y ≤ℚ z → x ≤ℚ z
 ≤ℚ-trans {x} {y} {z} = by-fractions₃ (λ x y z. x ≤ℚ y → y ≤ℚ z → x ≤ℚ z) (λ x y z. →-prop (→-prop (≤ℚ-prop x z)))
     (λ a b c h k. ≤ℚ-of (record { crosswise = *ℤ-cancel (b .lower) (b .positive) (chain a b c (≤ᶠ-of a b h) (≤ᶠ-of b c k)) })) x y z
@@ -111,19 +107,6 @@ pub +ℚ-mono-left : {x y : ℚ} (z : ℚ) → x ≤ℚ y → z +ℚ x ≤ℚ z 
 
 pub +ℚ-mono : {x y z w : ℚ} → x ≤ℚ y → z ≤ℚ w → x +ℚ z ≤ℚ y +ℚ w
 +ℚ-mono {y} {z} h k = ≤ℚ-trans (+ℚ-mono-right z h) (+ℚ-mono-left y k)
-
-pub +ℚ-cancel-right : {x y : ℚ} (z : ℚ) → x +ℚ z ≤ℚ y +ℚ z → x ≤ℚ y
-+ℚ-cancel-right {x} {y} z h = subst₂ (λ a b. a ≤ℚ b) (+ℚ-cancel x z) (+ℚ-cancel y z) (+ℚ-mono-right (negℚ z) h)
-
-pub ≤ℚ-reflexive : {x y : ℚ} → x ≡ y → x ≤ℚ y
-≤ℚ-reflexive {x} h = subst (λ z. x ≤ℚ z) h (≤ℚ-refl x)
-
--- the certificate of an inequality: the difference of y and x is that of r and l
-pub ≤ℚ-certificate : {l r x y : ℚ} → l ≤ℚ r → x +ℚ r ≡ y +ℚ l → x ≤ℚ y
-≤ℚ-certificate {l} {x} h e = +ℚ-cancel-right l (≤ℚ-trans (+ℚ-mono-left x h) (≤ℚ-reflexive e))
-
-pub negℚ-anti : {x y : ℚ} → x ≤ℚ y → negℚ y ≤ℚ negℚ x
-negℚ-anti {x} {y} h = ≤ℚ-certificate h (+ℚ-comm (negℚ y) y ∙ +ℚ-invr y ∙ sym (+ℚ-comm (negℚ x) x ∙ +ℚ-invr x))
 
 -- ---- whole numbers
 

@@ -34,9 +34,6 @@ neg-unique a b h = sym (+ℤ-idr a) ∙ ap (λ x. a +ℤ x) (sym (+ℤ-invr b)) 
 pub neg-mul : (a b : ℤ) → negℤ a *ℤ b ≡ negℤ (a *ℤ b)
 neg-mul a b = neg-unique (negℤ a *ℤ b) (a *ℤ b) (sym (add-mul (negℤ a) a b) ∙ ap (λ x. x *ℤ b) (+ℤ-invl a) ∙ zero-*ℤ b)
 
-pub mul-neg : (a b : ℤ) → a *ℤ negℤ b ≡ negℤ (a *ℤ b)
-mul-neg a b = *ℤ-comm a (negℤ b) ∙ neg-mul b a ∙ ap negℤ (*ℤ-comm b a)
-
 pub mul-assoc : (a b c : ℤ) → a *ℤ b *ℤ c ≡ a *ℤ (b *ℤ c)
 mul-assoc a b c = induction (λ x. x *ℤ b *ℤ c ≡ x *ℤ (b *ℤ c))
     (ap (λ x. x *ℤ c) (zero-*ℤ b) ∙ zero-*ℤ c ∙ sym (zero-*ℤ (b *ℤ c)))
