@@ -1,20 +1,14 @@
--- Laws of a text that is put at an offset of some bytes: several one after the other, a column, a line end.
+-- Laws of a text that is put at an offset of some bytes: what stands there, what is kept, and several texts one behind the other.
 -- Assumes nothing.
 use mathlib.Core.Path.{_≡_, sym, ap, _∙_}
-use mathlib.Core.Bool.{true}
 use mathlib.Core.List.{List, [], _∷_, _++_, append-assoc, append-nil}
-use Prim.Native.Nat.{ℕ, _+_, _≤_, _<_}
-use native.Mathlib.Nat.{add-zero, zero-add}
+use Prim.Native.Nat.{ℕ, _+_, _-_, _≤_, _<_}
+use native.Mathlib.Nat.{add-zero, zero-add, le-of-eq}
 use native.Mathlib.Numerals.{add-one}
 use native.Mathlib.Omega.{arith}
-use lib.IntN.{ℤ}
-use lib.ListN.{length, take, drop, set, length-append, length-drop, take-append-drop}
-use borrow.Author.Tests.{le-leb}
-use lib.Seq.{length-take-le, take-at, drop-at, drop-drop, set-split, append-snoc}
-use Rattle.columns.specs.Column.{column, fitsColumn, putAt, afterPut}
-use Rattle.columns.proofs.Offset.{can-put, put-done}
-use Rattle.columns.proofs.Promises.{column-is-ten}
-use Rattle.card_text.specs.Inner.{placed}
+use lib.ListN.{length, getD, take, drop, set, length-append, length-drop, take-append-drop, drop-of-length-le, List·getD-append}
+use lib.Seq.{length-take-le, take-all, take-length, take-at, drop-at, drop-drop, getD-take, getD-drop, getD-append-add, set-split, append-snoc}
+use Rattle.columns.specs.Line.{placed}
 
 pub placed-none : (bytes : List ℕ) (at : ℕ) → placed bytes at [] ≡ bytes
 unfolding placed
@@ -24,11 +18,22 @@ pub placed-front : (bytes text : List ℕ) → placed bytes 0 text ≡ text ++ d
 unfolding placed
 placed-front bytes text = rw zero-add
 
--- the column of a number that fits
-pub placed-column : (bytes : List ℕ) (at : ℕ) (z : ℤ) → fitsColumn z ≡ true → at + 10 ≤ length bytes → afterPut bytes at z ≡ placed bytes at (column z)
-unfolding placed putAt
-placed-column bytes at z fits room =
-    put-done bytes at z (can-put bytes at z (le-leb (at + 10) (length bytes) room) fits) ∙ rw (column-is-ten z fits)
+-- what stands from the offset on
+pub placed-from : (bytes : List ℕ) (at : ℕ) (text : List ℕ) → at ≤ length bytes → drop at (placed bytes at text) ≡ text ++ drop (at + length text) bytes
+unfolding placed
+placed-from bytes at text h =
+    rw (append-assoc) (drop-at (take at bytes) (text ++ drop (at + length text) bytes) at (length-take-le at bytes h))
+
+-- a text that is copied into the part from the offset on
+pub placed-copy : (bytes : List ℕ) (at : ℕ) (text : List ℕ)
+    → take at bytes ++ (take (length text) text ++ drop (length text) (take (length bytes - at) (drop at bytes)) ++ drop (length bytes - at) (drop at bytes))
+    ≡ placed bytes at text
+unfolding placed
+placed-copy bytes at text =
+    let size = le-of-eq (length-drop at bytes) in
+    let whole : take (length bytes - at) (drop at bytes) ≡ drop at bytes = take-all (length bytes - at) (drop at bytes) size in
+    let none : drop (length bytes - at) (drop at bytes) ≡ [] = drop-of-length-le (drop at bytes) size in
+    rw (whole, none, take-length text, append-nil, drop-drop (length text) at bytes, append-assoc)
 
 -- a single byte
 pub placed-byte : (bytes : List ℕ) (at b : ℕ) → at < length bytes → set bytes at b ≡ placed bytes at (b ∷ [])
@@ -43,6 +48,21 @@ module _ (bytes : List ℕ) (at : ℕ) (text : List ℕ) (room : at + length tex
   unfolding placed
   placed-length =
       length-append (take at bytes ++ text) (drop (at + length text) bytes) ∙ rw (head, length-drop) (omega arith)
+
+  -- the bytes before and behind the text
+  pub placed-before : (k : ℕ) → k < at → getD (placed bytes at text) k 0 ≡ getD bytes k 0
+  unfolding placed
+  placed-before k h =
+      List·getD-append (take at bytes ++ text) (drop (at + length text) bytes) 0 k (omega (arith, head))
+      ∙ List·getD-append (take at bytes) text 0 k (omega (arith, length-take-le at bytes (omega arith)))
+      ∙ getD-take at bytes k 0 h
+
+  pub placed-behind : (k : ℕ) → at + length text ≤ k → getD (placed bytes at text) k 0 ≡ getD bytes k 0
+  unfolding placed
+  placed-behind k h =
+      let j = k - (at + length text) in
+      let e : length (take at bytes ++ text) + j ≡ k = omega (arith, head) in
+      rw (← e, getD-append-add, head, getD-drop)
 
   -- a second text behind the first
   pub placed-next : (next : List ℕ) → placed (placed bytes at text) (at + length text) next ≡ placed bytes at (text ++ next)

@@ -1,4 +1,4 @@
--- `columns::value_of` meets its contract. The loop's invariant: going on from here gives the whole value, and m is bounded by the bytes read so far, each of which shows at most 207, or 9 × 23. The measure is what is left of the length.
+-- `value_of` meets its contract. The loop's invariant: going on from here gives the whole value, and m is bounded by the bytes read so far, each of which shows at most 207, or 9 × 23. The measure is what is left of the length.
 -- Assumes nothing.
 use Prim.Native.Nat.{ℕ, _≤_, _<_, _-_, _+_, _*_, _^_}
 use native.Mathlib.Nat.{pow-suc, pow-le-pow-right}
@@ -10,8 +10,8 @@ use lib.Dec.{lit<}
 use borrow.Author.Needs.{needs}
 use Rattle.columns.specs.Column.{valueAfter}
 use Rattle.columns.proofs.Decode.{next-value}
-use Rattle.columns.proofs.value_of.Statement.{statement}
-use Rattle.columns.proofs.value_of.Tie as tie
+use Rattle.columns.proofs.read.value_of.Statement.{statement}
+use Rattle.columns.proofs.read.value_of.Tie as tie
 
 abbrev Inv-loop : tie.InvT-loop
 Inv-loop b m₀ i₀ m i = (i ≤ length b) × (valueAfter m (drop i b) ≡ valueAfter 0 b) × (m + 23 ≤ 23 * 10 ^ i)

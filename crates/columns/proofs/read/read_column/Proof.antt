@@ -1,4 +1,4 @@
--- `columns::read_column` meets its contract.
+-- `read_column` meets its contract.
 -- Assumes nothing.
 use Prim.Native.Nat.{ℕ, _+_, _≤_, _-_}
 use native.Mathlib.Omega.{arith}
@@ -13,8 +13,8 @@ use borrow.Author.Needs.{needs}
 use borrow.Author.Tests.{leb-true, not-true, not-false}
 use Rattle.columns.specs.Column.{column, decode, readAt}
 use Rattle.columns.proofs.Offset.{too-short, too-long, malformed, well-formed}
-use Rattle.columns.proofs.read_column.Statement.{statement}
-use Rattle.columns.proofs.read_column.Tie as tie
+use Rattle.columns.proofs.read.read_column.Statement.{statement}
+use Rattle.columns.proofs.read.read_column.Tie as tie
 
 has-room-requires : tie.Need-has-room-requires
 has-room-requires c κs = search needs

@@ -1,4 +1,4 @@
--- `columns::magnitude` meets its contract.
+-- `magnitude` meets its contract.
 -- Assumes nothing.
 use native.Mathlib.Omega.{arith}
 use mathlib.Core.Path.{_≡_}
@@ -8,8 +8,8 @@ use mir.Val.{SFits, toZ, ofZ}
 use mir.ValLaws.{toZ-ofZ}
 use borrow.Author.Needs.{needs}
 use Rattle.columns.proofs.Signed.{negated, not-negative, size-small}
-use Rattle.columns.proofs.magnitude.Statement.{statement}
-use Rattle.columns.proofs.magnitude.Tie as tie
+use Rattle.columns.proofs.text.magnitude.Statement.{statement}
+use Rattle.columns.proofs.text.magnitude.Tie as tie
 
 size-fits : (c : tie.Start) → SFits w64 (pos (natAbs (c .args .value)))
 size-fits c = record { sfits = omega (arith, size-small (c .args .value) (c .pre)) }

@@ -1,10 +1,10 @@
--- `columns::fits_column` meets its contract.
+-- `fits_column` meets its contract.
 -- Assumes nothing.
 use mir.Syntax.{w64}
 use mir.ValLaws.{toZ-ofZ}
 use Rattle.columns.proofs.Signed.{low-test, high-test}
-use Rattle.columns.proofs.fits_column.Statement.{statement}
-use Rattle.columns.proofs.fits_column.Tie as tie
+use Rattle.columns.proofs.text.fits_column.Statement.{statement}
+use Rattle.columns.proofs.text.fits_column.Tie as tie
 
 returns : tie.Need-returns
 returns c =

@@ -1,4 +1,4 @@
--- `columns::column_of` meets its contract. The loop's invariant: the bytes are filled from the right so far. The measure is what is left of the number.
+-- `column_of` meets its contract. The loop's invariant: the bytes are filled from the right so far. The measure is what is left of the number.
 -- Assumes nothing.
 use mathlib.Core.Path.{_≡_}
 use mathlib.Core.Bool.{true}
@@ -10,8 +10,8 @@ use borrow.Author.Needs.{needs}
 use mir.Syntax.{w64}
 use mir.ValLaws.{toZ-ofZ}
 use Rattle.columns.proofs.Filling.{Filled, start, space-left, turn, digits-short, space-for-minus, column-not-negative, column-negative}
-use Rattle.columns.proofs.column_of.Statement.{statement}
-use Rattle.columns.proofs.column_of.Tie as tie
+use Rattle.columns.proofs.text.column_of.Statement.{statement}
+use Rattle.columns.proofs.text.column_of.Tie as tie
 
 abbrev Inv-loop : tie.InvT-loop
 Inv-loop value negative m b₀ first₀ rest₀ b first rest = Filled m b first rest

@@ -1,4 +1,4 @@
--- `columns::signed_value` meets its contract.
+-- `signed_value` meets its contract.
 -- Assumes nothing.
 use native.Mathlib.Omega.{arith}
 use mathlib.Core.Path.{_≡_}
@@ -9,8 +9,8 @@ use mir.ValLaws.{toZ-ofZ, toZ-pos}
 use borrow.Author.Needs.{needs}
 use Rattle.columns.specs.Column.{signed}
 use Rattle.columns.proofs.Signed.{small-negative}
-use Rattle.columns.proofs.signed_value.Statement.{statement}
-use Rattle.columns.proofs.signed_value.Tie as tie
+use Rattle.columns.proofs.read.signed_value.Statement.{statement}
+use Rattle.columns.proofs.read.signed_value.Tie as tie
 
 cast-value : tie.Need-cast-value
 cast-value c = search needs
