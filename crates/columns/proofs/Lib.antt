@@ -6,5 +6,5 @@ pub mod Offset
 pub mod Placed
 pub mod Put
 pub mod Promises
-mod Signed
+pub mod Signed
 mod Filling

@@ -2,24 +2,17 @@
 -- Assumes nothing.
 use mathlib.Core.Path.{_≡_, refl, sym, ap, ap₂, _∙_, subst}
 use mathlib.Core.Bool.{Bool, true, false, _&&_, cond}
-use Prim.Native.Nat.{suc, _^_, _<_}
+use Prim.Native.Nat.{suc}
 use lib.Dec.{T}
 use lib.IntN.{ℤ, pos, negℤ}
-use lib.Signed.{leZ, leZ-yes, mag}
-use mir.Syntax.{w64}
-use mir.Val.{toZ, ofZ, hbits}
-use mir.ValLaws.{toZ-ofZ}
+use lib.Signed.{leZ, leZ-yes}
 use Rattle.columns.proofs.Decode.{both}
 use Rattle.curve.specs.declared.Interval.{Interval}
 use Rattle.curve.specs.declared.Rect.{Rect}
 use Rattle.curve.specs.Limits.{maxSide}
 use Rattle.curve.specs.Rect.{inRange, endsInRange, sidesInRange}
 use Rattle.curve.specs.Inner.{Side}
-use Rattle.card_text.specs.Inner.{clamped, clampedEnds, clampedRect}
-
--- an i64 is what its bits say
-pub told : (z : ℤ) → mag z < 2 ^ hbits w64 → toZ w64 (ofZ w64 z) ≡ z
-told z h = toZ-ofZ w64 z (record { sfits = h })
+use Rattle.card_text.specs.Inner.{limited, limitedEnds, limitedRect}
 
 -- a test and what it says
 pub holds : {b : Bool} → b ≡ true → T b
@@ -52,39 +45,39 @@ module _ (z : ℤ) where
   unfolding inRange
   above low high = ap₂ _&&_ low high
 
-  pub clamped-in : inRange z ≡ true → clamped z ≡ z
-  unfolding clamped
-  clamped-in e = ap (λ (b : Bool). cond b z (pos (suc maxSide))) e
+  pub limited-in : inRange z ≡ true → limited z ≡ z
+  unfolding limited
+  limited-in e = ap (λ (b : Bool). cond b z (pos (suc maxSide))) e
 
-  pub clamped-out : inRange z ≡ false → clamped z ≡ pos (suc maxSide)
-  unfolding clamped
-  clamped-out e = ap (λ (b : Bool). cond b z (pos (suc maxSide))) e
+  pub limited-out : inRange z ≡ false → limited z ≡ pos (suc maxSide)
+  unfolding limited
+  limited-out e = ap (λ (b : Bool). cond b z (pos (suc maxSide))) e
 
-  pub clamped-range : inRange (clamped z) ≡ inRange z
-  clamped-range = by (inRange z) refl
+  pub limited-range : inRange (limited z) ≡ inRange z
+  limited-range = by (inRange z) refl
     where
-      by : (b : Bool) → inRange z ≡ b → inRange (clamped z) ≡ inRange z
-      by true e = ap inRange (clamped-in e)
-      by false e = ap inRange (clamped-out e) ∙ beyond ∙ sym e
+      by : (b : Bool) → inRange z ≡ b → inRange (limited z) ≡ inRange z
+      by true e = ap inRange (limited-in e)
+      by false e = ap inRange (limited-out e) ∙ beyond ∙ sym e
 
 -- ---- a rectangle
 
-ends-range : (i : Interval) → endsInRange (clampedEnds i) ≡ endsInRange i
-unfolding endsInRange clampedEnds
-ends-range i = ap₂ _&&_ (clamped-range (i .low)) (clamped-range (i .high))
+ends-range : (i : Interval) → endsInRange (limitedEnds i) ≡ endsInRange i
+unfolding endsInRange limitedEnds
+ends-range i = ap₂ _&&_ (limited-range (i .low)) (limited-range (i .high))
 
-ends-in : (i : Interval) → endsInRange i ≡ true → clampedEnds i ≡ i
-unfolding endsInRange clampedEnds
+ends-in : (i : Interval) → endsInRange i ≡ true → limitedEnds i ≡ i
+unfolding endsInRange limitedEnds
 ends-in i e =
     let (low, high) = both (inRange (i .low)) (inRange (i .high)) e in
-    ap₂ (λ (a b : ℤ). record { low = a; high = b }) (clamped-in (i .low) low) (clamped-in (i .high) high)
+    ap₂ (λ (a b : ℤ). record { low = a; high = b }) (limited-in (i .low) low) (limited-in (i .high) high)
 
-pub rect-range : (p : Rect) → sidesInRange (clampedRect p) ≡ sidesInRange p
-unfolding sidesInRange clampedRect
+pub rect-range : (p : Rect) → sidesInRange (limitedRect p) ≡ sidesInRange p
+unfolding sidesInRange limitedRect
 rect-range p = ap₂ _&&_ (ends-range (p .resistance)) (ends-range (p .reactance))
 
-pub rect-in : (p : Rect) → sidesInRange p ≡ true → clampedRect p ≡ p
-unfolding sidesInRange clampedRect
+pub rect-in : (p : Rect) → sidesInRange p ≡ true → limitedRect p ≡ p
+unfolding sidesInRange limitedRect
 rect-in p e =
     let (first, second) = both (endsInRange (p .resistance)) (endsInRange (p .reactance)) e in
     ap₂ (λ (i j : Interval). record { resistance = i; reactance = j }) (ends-in (p .resistance) first) (ends-in (p .reactance) second)

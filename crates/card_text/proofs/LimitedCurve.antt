@@ -16,8 +16,8 @@ use Rattle.curve.specs.Refusals.{refusal, _orElse_, firstFailing, degreeRefusal
 use Rattle.curve.proofs.Accepted.{accepted-facts, sides-range}
 use Rattle.curve.proofs.Places.{points-agree}
 use Rattle.curve.proofs.Points.{point-at, point-past}
-use Rattle.card_text.specs.Inner.{clamped, clampedEnds, clampedRect}
-use Rattle.card_text.proofs.Clamped.{rect-range, rect-in, holds-true}
+use Rattle.card_text.specs.Inner.{limited, limitedEnds, limitedRect}
+use Rattle.card_text.proofs.Limited.{rect-range, rect-in, holds-true}
 
 -- a second test that differs only where the first fails is not reached there
 first-two : (a b b′ : ℕ → Bool) → ((k : ℕ) → a k ≡ true → b k ≡ b′ k) → (m from : ℕ) →
@@ -40,37 +40,37 @@ module _ (n : ℕ) (P : ℕ → Rect) (few : n ≤ maxDegree) where
   given = curveOf n P
 
   abbrev held : Curve
-  held = curveOf n (λ k. clampedRect (P k))
+  held = curveOf n (λ k. limitedRect (P k))
 
-  zero-clamped : clampedRect zeroRect ≡ zeroRect
-  unfolding clampedRect clampedEnds clamped inRange
-  zero-clamped = refl
+  zero-limited : limitedRect zeroRect ≡ zeroRect
+  unfolding limitedRect limitedEnds limited inRange
+  zero-limited = refl
 
-  point-clamped : (k : ℕ) → point held k ≡ clampedRect (point given k)
-  point-clamped k = by (decLe k n)
+  point-limited : (k : ℕ) → point held k ≡ limitedRect (point given k)
+  point-limited k = by (decLe k n)
     where
-      by : Dec (k ≤ n) → point held k ≡ clampedRect (point given k)
-      by (yes h) = point-at n (λ i. clampedRect (P i)) k few h ∙ ap clampedRect (sym (point-at n P k few h))
+      by : Dec (k ≤ n) → point held k ≡ limitedRect (point given k)
+      by (yes h) = point-at n (λ i. limitedRect (P i)) k few h ∙ ap limitedRect (sym (point-at n P k few h))
       by (no h) =
           let past : n < k = omega arith in
-          point-past n (λ i. clampedRect (P i)) k past ∙ sym (ap clampedRect (point-past n P k past) ∙ zero-clamped)
+          point-past n (λ i. limitedRect (P i)) k past ∙ sym (ap limitedRect (point-past n P k past) ∙ zero-limited)
 
-  range-clamped : (k : ℕ) → sidesInRange (point held k) ≡ sidesInRange (point given k)
-  range-clamped k = ap sidesInRange (point-clamped k) ∙ rect-range (point given k)
+  range-limited : (k : ℕ) → sidesInRange (point held k) ≡ sidesInRange (point given k)
+  range-limited k = ap sidesInRange (point-limited k) ∙ rect-range (point given k)
 
-  order-clamped : (k : ℕ) → sidesInRange (point given k) ≡ true → sidesOrdered (point held k) ≡ sidesOrdered (point given k)
-  order-clamped k ok = ap sidesOrdered (point-clamped k ∙ rect-in (point given k) ok)
+  order-limited : (k : ℕ) → sidesInRange (point given k) ≡ true → sidesOrdered (point held k) ≡ sidesOrdered (point given k)
+  order-limited k ok = ap sidesOrdered (point-limited k ∙ rect-in (point given k) ok)
 
-  pub refusal-clamped : curveRefusal held ≡ curveRefusal given
+  pub refusal-limited : curveRefusal held ≡ curveRefusal given
   unfolding curveRefusal rangeRefusal orderRefusal
-  refusal-clamped =
-      let range : _≡_ {A = ℕ → Bool} (λ k. sidesInRange (point held k)) (λ k. sidesInRange (point given k)) = fun-ext range-clamped in
+  refusal-limited =
+      let range : _≡_ {A = ℕ → Bool} (λ k. sidesInRange (point held k)) (λ k. sidesInRange (point given k)) = fun-ext range-limited in
       ap (λ (r : Refusal). degreeRefusal given orElse r)
       (ap (λ (ok : ℕ → Bool). firstFailing ok 2 (n + 1) 0 orElse orderRefusal held) range
-      ∙ first-two (λ k. sidesInRange (point given k)) (λ k. sidesOrdered (point held k)) (λ k. sidesOrdered (point given k)) order-clamped (n + 1) 0)
+      ∙ first-two (λ k. sidesInRange (point given k)) (λ k. sidesOrdered (point held k)) (λ k. sidesOrdered (point given k)) order-limited (n + 1) 0)
 
-  pub curve-clamped : Accepted given → held ≡ given
-  curve-clamped ok =
+  pub curve-limited : Accepted given → held ≡ given
+  curve-limited ok =
       ap (λ (l : List Rect). record { degree = n; points = l })
-      (points-agree n (λ k. clampedRect (P k)) P
+      (points-agree n (λ k. limitedRect (P k)) P
       (λ k h. rect-in (P k) (ap sidesInRange (sym (point-at n P k few h)) ∙ holds-true (sidesInRange (point given k)) (sides-range (point given k) (accepted-facts given ok .inRange k h)))))
