@@ -1,9 +1,9 @@
 -- What is shown by whether the card is refused, how long it is, and how it gets into the buffer.
 -- Assumes nothing.
-use mathlib.Core.Path.{_≡_, refl, sym, ap, _∙_, subst}
+use mathlib.Core.Path.{_≡_, sym, ap, _∙_}
 use mathlib.Core.Bool.{Bool, true, cond}
 use mathlib.Core.List.{List, [], _∷_, _++_}
-use Prim.Native.Nat.{ℕ, _+_, _≤_, _<_}
+use Prim.Native.Nat.{ℕ, _≤_, _<_}
 use native.Mathlib.Omega.{arith}
 use lib.IntN.{pos}
 use lib.ListN.{length, take, drop, length-append, length-take}
@@ -13,13 +13,10 @@ use Rattle.columns.proofs.Lines.{number-fits, fit-none, fit-more, line-long}
 use Rattle.columns.proofs.Placed.{placed-front}
 use Rattle.columns.proofs.Put.{line-put}
 use Rattle.curve.specs.declared.Curve.{Curve}
-use Rattle.curve.specs.declared.Evaluation.{Evaluation}
 use Rattle.curve.specs.declared.Refusal.{Refusal}
-use Rattle.curve.specs.Refusals.{Accepted, AcceptedAt, parameterRefusal}
 use Rattle.curve.specs.Calls.{bounded, evaluated}
-use Rattle.curve.specs.Inner.{Held}
-use Rattle.curve.proofs.Answers.{evaluated-accepted}
-use Rattle.curve.proofs.Pieces.{load-held}
+use Rattle.curve.proofs.BoundsHeld.{bounds-held}
+use Rattle.curve.proofs.Loads.{load-held}
 use Rattle.card_text.specs.declared.CardRead.{CardRead}
 use Rattle.card_text.specs.Card.{row}
 use Rattle.card_text.specs.Reading.{readCard}
@@ -27,22 +24,13 @@ use Rattle.card_text.proofs.Fitting.{row-long}
 use Rattle.card_text.proofs.Places.{card-within}
 use Rattle.card_text.proofs.Promises.{read-refusal}
 use Rattle.card_report.specs.Report.{mostBytes, curveLines, refusalLine, shown, mostShown, reportLength, reportBytes}
-use Rattle.card_report.proofs.BoundsHeld.{bounds-held}
 
 -- ---- lengths
 
--- 1/2 is a parameter
-half : AcceptedAt 1 2
-unfolding parameterRefusal
-half = refl
-
-pub half-held : (c : Curve) → Accepted c → Held (evaluated c 1 2 .load)
-half-held c ok = subst Held (sym (ap (λ (e : Evaluation). e .load) (evaluated-accepted c 1 2 ok half))) (load-held c 1 2 ok half)
-
-pub lines-long : (c : Curve) → Accepted c → length (curveLines c) ≡ mostShown
+pub lines-long : (c : Curve) → length (curveLines c) ≡ mostShown
 unfolding curveLines
-lines-long c ok =
-    length-append (row (bounded c .rect)) (row (evaluated c 1 2 .load)) ∙ rw (row-long (bounds-held c ok), row-long (half-held c ok))
+lines-long c =
+    length-append (row (bounded c .rect)) (row (evaluated c 1 2 .load)) ∙ rw (row-long (bounds-held c), row-long (load-held c 1 2))
 
 -- a refusal's two numbers fit their columns
 module _ (r : Refusal) (small : (r .number ≤ mostBytes) × (r .place ≤ mostBytes)) where

@@ -11,7 +11,6 @@ use lib.Seq.{take-append-seam, getD-append-add, getD-drop}
 use borrow.Author.Tests.{leb-true, leb-false, eqb-true, eqb-false}
 use Rattle.card_text.specs.Reading.{readCard}
 use Rattle.columns.proofs.Placed.{placed-front}
-use Rattle.card_text.proofs.Promises.{read-is-written}
 use Rattle.card_report.specs.Report.{mostBytes, shown, mostShown, reportLength, reportBytes}
 use Rattle.card_report.specs.Promises.{ShownLines, ReportShows, ReportKeeps}
 use Rattle.card_report.proofs.Answer.{lines-long, refusal-long, read-within, shown-refused, shown-accepted, too-short, reported}
@@ -20,7 +19,7 @@ pub shown-lines : ShownLines
 shown-lines input =
     let card = take mostBytes input in
     record {
-      read = λ h. ap length (shown-accepted input h) ∙ lines-long (readCard card .curve) (read-is-written card h .accepted);
+      read = λ h. ap length (shown-accepted input h) ∙ lines-long (readCard card .curve);
       refused = λ h. ap length (shown-refused input h) ∙ refusal-long (readCard card .refusal) (read-within input);
     }
 

@@ -7,9 +7,8 @@ use native.Mathlib.Omega.{arith}
 use lib.Dec.{leb}
 use borrow.Author.Tests.{leb-true}
 use Rattle.curve.specs.declared.Refusal.{Refusal}
-use Rattle.curve.specs.Refusals.{none, _orElse_, unless}
+use Rattle.curve.specs.Refusals.{none, _orElse_, unless, unlessAt}
 use Rattle.columns.proofs.Decode.{both}
-use Rattle.card_text.specs.Reading.{unlessAt}
 
 pub or-none : (a b : Refusal) → a ≡ none → b ≡ none → (a orElse b) ≡ none
 or-none a b e f = ap (λ (x : Refusal). x orElse b) e ∙ f

@@ -74,7 +74,7 @@ module _ (c : Curve) (ok : Accepted c) where
       ∙ ap (λ (l : List Rect). record { degree = n; points = l }) (points-agree n (λ k. rectAt card (rowAt k)) (point c) (λ k h. line k h .1))
 
   -- none of the refusals applies
-  none-degree : degreeRefusal (decoded card) ≡ none
+  none-degree : degreeRefusal (decoded card .degree) ≡ none
   none-degree =
       ap (λ (m : ℕ). unless (leb 1 m && leb m maxDegree) 1) degree
       ∙ unless-none (leb 1 n && leb n maxDegree) 1 0 (ap₂ _&&_ (le-leb 1 n (accepted-ready c ok .some)) (le-leb n maxDegree few))
@@ -91,7 +91,7 @@ module _ (c : Curve) (ok : Accepted c) where
       let (entry, number, end) = header-read card n few first in
       let size = card-long c ok in
       or-none (shortRefusal card) _ (unless-none (leb headerLength (length card)) 10 (length card) (le-leb headerLength (length card) (omega arith)))
-      (or-none (columnRefusal card 0) _ entry (or-none (lineEndRefusal card 10) _ end (or-none (degreeRefusal (decoded card)) (lengthRefusal (decoded card .degree) (length card)) none-degree none-length)))
+      (or-none (columnRefusal card 0) _ entry (or-none (lineEndRefusal card 10) _ end (or-none (degreeRefusal (decoded card .degree)) (lengthRefusal (decoded card .degree) (length card)) none-degree none-length)))
 
   none-all : cardRefusal card ≡ none
   none-all =

@@ -7,9 +7,9 @@ use Prim.Native.Nat.{ℕ, _≤_, _<_}
 use lib.ListN.{length}
 use borrow.Author.Tests.{le-leb, lt-leb}
 use Rattle.curve.specs.declared.Refusal.{Refusal}
-use Rattle.curve.specs.Refusals.{refusal, _orElse_}
+use Rattle.curve.specs.Refusals.{refusal, _orElse_, unlessAt}
 use Rattle.card_text.specs.Card.{headerLength}
-use Rattle.card_text.specs.Reading.{numberAt, degreeOf, decoded, columnRefusal, lineEndRefusal, shortRefusal, headerRefusal, unlessAt}
+use Rattle.card_text.specs.Reading.{numberAt, degreeOf, decoded, columnRefusal, lineEndRefusal, shortRefusal, headerRefusal}
 use Rattle.card_text.specs.Inner.{sizeRefusal}
 
 module _ (bytes : List ℕ) where

@@ -65,7 +65,7 @@ module _ (n : ℕ) (P : ℕ → Rect) (few : n ≤ maxDegree) where
   unfolding curveRefusal rangeRefusal orderRefusal
   refusal-limited =
       let range : _≡_ {A = ℕ → Bool} (λ k. sidesInRange (point held k)) (λ k. sidesInRange (point given k)) = fun-ext range-limited in
-      ap (λ (r : Refusal). degreeRefusal given orElse r)
+      ap (λ (r : Refusal). degreeRefusal (given .degree) orElse r)
       (ap (λ (ok : ℕ → Bool). firstFailing ok 2 (n + 1) 0 orElse orderRefusal held) range
       ∙ first-two (λ k. sidesInRange (point given k)) (λ k. sidesOrdered (point held k)) (λ k. sidesOrdered (point given k)) order-limited (n + 1) 0)
 

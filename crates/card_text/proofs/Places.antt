@@ -12,9 +12,9 @@ use Rattle.curve.specs.declared.Refusal.{Refusal}
 use Rattle.curve.specs.Limits.{maxDegree}
 use Rattle.curve.specs.Rect.{sidesInRange, sidesOrdered}
 use Rattle.curve.specs.Curve.{point}
-use Rattle.curve.specs.Refusals.{_orElse_, firstFailing, degreeRefusal, rangeRefusal, orderRefusal}
+use Rattle.curve.specs.Refusals.{_orElse_, firstFailing, degreeRefusal, rangeRefusal, orderRefusal, unlessAt}
 use Rattle.card_text.specs.Card.{headerLength, rowLength, cardLength, longestCard, rowAt}
-use Rattle.card_text.specs.Reading.{wellFormed, numberAt, decoded, unlessAt, columnRefusal, lineEndRefusal, endsRefusal, rowRefusal, rowsRefusal, shortRefusal, lengthRefusal, headerRefusal, cardRefusal}
+use Rattle.card_text.specs.Reading.{wellFormed, numberAt, decoded, columnRefusal, lineEndRefusal, endsRefusal, rowRefusal, rowsRefusal, shortRefusal, lengthRefusal, headerRefusal, cardRefusal}
 use Rattle.card_text.proofs.Degree.{degree-at-most}
 
 degree-few : (bytes : List ℕ) → decoded bytes .degree ≤ maxDegree
@@ -84,7 +84,7 @@ module _ (m : ℕ) (enough : longestCard ≤ m) where
           within-or (shortRefusal bytes) _ (within-unless (leb headerLength (length bytes)) 10 (length bytes) (omega arith) size)
           (within-or (columnRefusal bytes 0) _ (within-column 0 (omega arith))
           (within-or (lineEndRefusal bytes 10) _ (within-end 10 (omega arith))
-          (within-or (degreeRefusal (decoded bytes)) (lengthRefusal n (length bytes))
+          (within-or (degreeRefusal (decoded bytes .degree)) (lengthRefusal n (length bytes))
           (within-unless (leb 1 n && leb n maxDegree) 1 0 (omega arith) (omega arith))
           (within-unless (eqb (length bytes) (cardLength n)) 10 (length bytes) (omega arith) size))))
 

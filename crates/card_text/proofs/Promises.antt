@@ -12,13 +12,13 @@ use Rattle.curve.specs.declared.Curve.{Curve}
 use Rattle.curve.specs.declared.Refusal.{Refusal}
 use Rattle.curve.specs.Rect.{zeroRect}
 use Rattle.curve.specs.Curve.{point, zeroCurve, SameCurve}
-use Rattle.curve.specs.Refusals.{none, _orElse_, curveRefusal, Accepted}
+use Rattle.curve.specs.Refusals.{none, _orElse_, curveRefusal, Accepted, unlessAt}
 use Rattle.curve.proofs.Accepted.{accepted-facts, number-accepted, or-split}
 use Rattle.curve.proofs.Points.{point-past}
 use Rattle.card_text.specs.declared.CardRead.{CardRead}
 use Rattle.card_text.specs.declared.CardWritten.{CardWritten}
 use Rattle.card_text.specs.Card.{header, rows, cardOf, cardLength, rowAt}
-use Rattle.card_text.specs.Reading.{numberAt, degreeOf, rectAt, decoded, unlessAt, headerRefusal, rowsRefusal, cardRefusal, readCard}
+use Rattle.card_text.specs.Reading.{numberAt, degreeOf, rectAt, decoded, headerRefusal, rowsRefusal, cardRefusal, readCard}
 use Rattle.card_text.specs.Writing.{writingRefusal, writeCard, bytesAfter}
 use Rattle.card_text.specs.Promises.{CardLength, WrittenReads, ReadIsWritten, PastUnwritten, ReadZeroPast}
 use Rattle.card_text.proofs.CardReads.{card-reads, same-refusal, same-trimmed}

@@ -23,7 +23,7 @@ module _ (bytes : List ℕ) where
   pub record FirstLine : Type 0 where
     pub entry : columnRefusal bytes 0 .number ≡ 0
     pub ended : lineEndRefusal bytes 10 .number ≡ 0
-    pub degree : degreeRefusal (decoded bytes) .number ≡ 0
+    pub degree : degreeRefusal (decoded bytes .degree) .number ≡ 0
     pub some : 1 ≤ decoded bytes .degree
     pub few : decoded bytes .degree ≤ maxDegree
     pub size : length bytes ≡ cardLength (decoded bytes .degree)
@@ -35,7 +35,7 @@ module _ (bytes : List ℕ) where
       let (short, h₁) = or-split (shortRefusal bytes) _ h in
       let (entry, h₂) = or-split (columnRefusal bytes 0) _ h₁ in
       let (ended, h₃) = or-split (lineEndRefusal bytes 10) _ h₂ in
-      let (degree, whole) = or-split (degreeRefusal (decoded bytes)) (lengthRefusal n (length bytes)) h₃ in
+      let (degree, whole) = or-split (degreeRefusal (decoded bytes .degree)) (lengthRefusal n (length bytes)) h₃ in
       let (low, high) = from-one maxDegree n degree in
       record {
         entry = entry;
@@ -60,7 +60,7 @@ module _ (bytes : List ℕ) where
       let c = decoded bytes in
       sym (or-second (headerRefusal bytes) laterLines h)
       ∙ ap (λ (r : Refusal). rowsRefusal bytes (c .degree + 1) orElse r)
-      (or-second (degreeRefusal c) (rangeRefusal c orElse orderRefusal c) (first-line h .degree))
+      (or-second (degreeRefusal (c .degree)) (rangeRefusal c orElse orderRefusal c) (first-line h .degree))
 
   -- the answer to a refusal, by the test of its number
   abbrev chosen : Bool → Refusal → CardRead

@@ -13,11 +13,10 @@ use Rattle.columns.proofs.Placed.{placed-front, placed-then}
 use Rattle.curve.specs.declared.Curve.{Curve}
 use Rattle.curve.specs.declared.Refusal.{Refusal}
 use Rattle.curve.specs.Curve.{point}
-use Rattle.curve.specs.Refusals.{none, curveRefusal, Accepted}
+use Rattle.curve.specs.Refusals.{none, curveRefusal, Accepted, unlessAt}
 use Rattle.curve.proofs.Accepted.{number-accepted, accepted-facts, or-split}
 use Rattle.card_text.specs.declared.CardWritten.{CardWritten}
 use Rattle.card_text.specs.Card.{header, rows, cardOf, headerLength, cardLength}
-use Rattle.card_text.specs.Reading.{unlessAt}
 use Rattle.card_text.specs.Writing.{writingRefusal, writeCard, bytesAfter}
 use Rattle.card_text.proofs.Accepting.{or-none, unless-zero, unless-none}
 use Rattle.card_text.proofs.Fitting.{header-long, card-long}

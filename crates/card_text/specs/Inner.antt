@@ -1,15 +1,14 @@
 -- What the functions inside the crate ask of each other. No public contract cites it.
 -- Assumes nothing.
 use Prim.Native.Nat.{ℕ, suc}
-use mathlib.Core.Bool.{_&&_, cond}
-use lib.Dec.{leb}
+use mathlib.Core.Bool.{cond}
 use lib.IntN.{ℤ, pos}
 use Rattle.curve.specs.declared.Interval.{Interval}
 use Rattle.curve.specs.declared.Rect.{Rect}
 use Rattle.curve.specs.declared.Refusal.{Refusal}
-use Rattle.curve.specs.Limits.{maxDegree, maxSide}
+use Rattle.curve.specs.Limits.{maxSide}
 use Rattle.curve.specs.Rect.{inRange}
-use Rattle.curve.specs.Refusals.{_orElse_, unless}
+use Rattle.curve.specs.Refusals.{_orElse_, degreeRefusal}
 use Rattle.card_text.specs.Reading.{lengthRefusal}
 
 -- a number as the reader holds it: itself if it is in a side's range, and else one that is out of range too
@@ -24,4 +23,4 @@ limitedRect p = record { resistance = limitedEnds (p .resistance); reactance = l
 
 -- 1, then 10: the degree, and the length for it
 unfoldable pub sizeRefusal : ℕ → ℕ → Refusal
-sizeRefusal n size = unless (leb 1 n && leb n maxDegree) 1 orElse lengthRefusal n size
+sizeRefusal n size = degreeRefusal n orElse lengthRefusal n size

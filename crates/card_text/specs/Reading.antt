@@ -16,7 +16,7 @@ use Rattle.curve.specs.declared.Rect.{Rect}
 use Rattle.curve.specs.declared.Refusal.{Refusal}
 use Rattle.curve.specs.Limits.{maxDegree}
 use Rattle.curve.specs.Curve.{curveOf, zeroCurve}
-use Rattle.curve.specs.Refusals.{refusal, none, _orElse_, degreeRefusal, rangeRefusal, orderRefusal}
+use Rattle.curve.specs.Refusals.{none, _orElse_, unlessAt, degreeRefusal, rangeRefusal, orderRefusal}
 use Rattle.card_text.specs.declared.CardRead.{CardRead}
 use Rattle.card_text.specs.Card.{headerLength, cardLength, rowAt}
 
@@ -53,10 +53,6 @@ decoded bytes = curveOf (degreeOf (numberAt bytes 0)) (λ k. rectAt bytes (rowAt
 
 -- ---- the refusals
 
--- refused with this number at this place unless the test holds
-abbrev pub unlessAt : Bool → ℕ → ℕ → Refusal
-unlessAt ok number place = cond ok none (refusal number place)
-
 -- 11: the column at an offset is malformed
 unfoldable pub columnRefusal : List ℕ → ℕ → Refusal
 columnRefusal bytes at = unlessAt (wellFormed (readAt bytes at)) 11 at
@@ -90,7 +86,7 @@ headerRefusal bytes =
     shortRefusal bytes
     orElse columnRefusal bytes 0
     orElse lineEndRefusal bytes 10
-    orElse degreeRefusal (decoded bytes)
+    orElse degreeRefusal (decoded bytes .degree)
     orElse lengthRefusal (decoded bytes .degree) (length bytes)
 
 -- all of a card's refusals: then 11 in the other lines, 2, 3

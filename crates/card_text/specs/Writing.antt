@@ -7,10 +7,9 @@ use lib.Dec.{leb, eqb}
 use lib.ListN.{length, drop}
 use Rattle.curve.specs.declared.Curve.{Curve}
 use Rattle.curve.specs.declared.Refusal.{Refusal}
-use Rattle.curve.specs.Refusals.{_orElse_, curveRefusal}
+use Rattle.curve.specs.Refusals.{_orElse_, unlessAt, curveRefusal}
 use Rattle.card_text.specs.declared.CardWritten.{CardWritten}
 use Rattle.card_text.specs.Card.{cardOf, cardLength}
-use Rattle.card_text.specs.Reading.{unlessAt}
 
 -- 1 to 3, then 12: a buffer of this size is shorter than the card
 unfoldable pub writingRefusal : Curve → ℕ → Refusal

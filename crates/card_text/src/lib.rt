@@ -10,16 +10,16 @@ mod write;
 
 use checks::HEADER_LENGTH;
 use checks::ROW_LENGTH;
-use checks::first_of;
 use checks::writing_refusal;
 use columns::put_line;
 use curve::Curve;
 use curve::PLACES;
 use curve::Refusal;
 use curve::curve_refusal;
+use curve::first_of;
+use curve::zero_curve;
 use read::read_header;
 use read::read_rows;
-use read::zero_curve;
 use write::write_rows;
 
 // The length of a card by its degree.

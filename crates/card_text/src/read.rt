@@ -3,8 +3,7 @@ ghost use mathlib.Core.Path.{_≡_};
 ghost use Prim.Native.Nat.{_+_, _≤_};
 ghost use lib.ListN.{length};
 ghost use Rattle.curve.specs.Limits.{maxDegree};
-ghost use Rattle.curve.specs.Rect.{zeroRect};
-ghost use Rattle.curve.specs.Curve.{zeroCurve, pointsOf};
+ghost use Rattle.curve.specs.Curve.{pointsOf};
 ghost use Rattle.card_text.specs.Card.{cardLength, rowAt};
 ghost use Rattle.card_text.specs.Reading.{
   numberAt,
@@ -20,12 +19,10 @@ ghost use Rattle.card_text.specs.Reading.{
 ghost use Rattle.card_text.specs.Inner.{limited, limitedEnds, limitedRect};
 use crate::checks::HEADER_LENGTH;
 use crate::checks::ROW_LENGTH;
-use crate::checks::first_of;
 use crate::checks::line_end_refusal;
 use crate::checks::size_refusal;
 use columns::Column;
 use columns::read_column;
-use curve::Curve;
 use curve::Interval;
 use curve::MAX_DEGREE;
 use curve::MAX_SIDE;
@@ -33,6 +30,8 @@ use curve::MIN_SIDE;
 use curve::PLACES;
 use curve::Rect;
 use curve::Refusal;
+use curve::first_of;
+use curve::zero_rect;
 
 // The number in a column, 0 if it is malformed.
 struct Entry {
@@ -62,24 +61,6 @@ struct Row {
 pub struct Rows {
     pub refusal: Refusal,
     pub points: [Rect; PLACES],
-}
-
-fn zero_rect() -> Rect
-    ensures { λ r. ⌜ r ≡ zeroRect ⌝ }
-{
-    Rect {
-        resistance: Interval { low: 0, high: 0 },
-        reactance: Interval { low: 0, high: 0 },
-    }
-}
-
-pub fn zero_curve() -> Curve
-    ensures { λ r. ⌜ r ≡ zeroCurve ⌝ }
-{
-    Curve {
-        degree: 0,
-        points: [zero_rect(); PLACES],
-    }
 }
 
 // A number as a side: one beyond every side's range becomes the first number above it.

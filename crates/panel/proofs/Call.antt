@@ -8,12 +8,12 @@ use lib.Dec.{leb, eqb}
 use lib.ListN.{length, drop}
 use borrow.Author.Tests.{le-leb, lt-leb, eq-eqb, ne-eqb, leb-true}
 use Rattle.curve.specs.declared.Refusal.{Refusal}
-use Rattle.curve.specs.Refusals.{refusal, none, _orElse_, parameterRefusal, Accepted, AcceptedAt}
+use Rattle.curve.specs.Refusals.{refusal, none, _orElse_, parameterRefusal, Accepted, AcceptedAt, unlessAt}
 use Rattle.curve.specs.Calls.{evaluated}
 use Rattle.curve.proofs.Refused.{or-first, or-second, number-passed}
 use Rattle.curve.proofs.Accepted.{number-accepted-at, call-parameter, or-split}
 use Rattle.curve.proofs.Answers.{evaluated-refusal}
-use Rattle.card_text.specs.Reading.{unlessAt, cardRefusal, readCard}
+use Rattle.card_text.specs.Reading.{cardRefusal, readCard}
 use Rattle.card_text.proofs.Accepting.{unless-zero}
 use Rattle.card_text.proofs.Promises.{read-refusal, read-is-written}
 use Rattle.panel.specs.Panel.{loadBytes, loadLength, panelRefusal, panelLoad, panelBytes}

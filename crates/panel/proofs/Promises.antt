@@ -14,12 +14,10 @@ use mir.Syntax.{w32}
 use mir.Val.{SFits}
 use borrow.Author.Tests.{lt-ltb, le-ltb, eqb-true, eqb-false}
 use Rattle.rational.specs.Rounding.{Rounding, down, up}
-use Rattle.curve.specs.declared.Evaluation.{Evaluation}
 use Rattle.curve.specs.declared.Rect.{Rect}
 use Rattle.curve.specs.Rect.{Coordinate, resistance, reactance, side}
 use Rattle.curve.specs.Inner.{Held}
-use Rattle.curve.proofs.Answers.{evaluated-accepted}
-use Rattle.curve.proofs.Pieces.{load-held}
+use Rattle.curve.proofs.Loads.{load-held}
 use Rattle.curve.proofs.Refused.{number-passed}
 use Rattle.curve.proofs.Sides.{side-fits}
 use Rattle.card_text.specs.Reading.{readCard}
@@ -80,9 +78,7 @@ load-read p held rest reactance up = side-read (p .reactance .high) (side-fits (
 pub panel-bytes : PanelBytes
 panel-bytes card num den out h x r =
     let c = readCard card .curve in
-    let a = panel-answers card num den (length out) h in
-    let held = subst Held (sym (ap (λ (e : Evaluation). e .load) (evaluated-accepted c num den (a .curve) (a .parameter)))) (load-held c num den (a .curve) (a .parameter)) in
-    ap (λ (l : List ℕ). signedOf (bitsAt l (offset x r))) (sym (written card num den out refl h)) ∙ load-read (panelLoad card num den) held (drop loadLength out) x r
+    ap (λ (l : List ℕ). signedOf (bitsAt l (offset x r))) (sym (written card num den out refl h)) ∙ load-read (panelLoad card num den) (load-held c num den) (drop loadLength out) x r
 
 -- ---- what is kept
 

@@ -9,9 +9,9 @@ use lib.ListN.{length, drop}
 use Rattle.curve.specs.declared.Interval.{Interval}
 use Rattle.curve.specs.declared.Rect.{Rect}
 use Rattle.curve.specs.declared.Refusal.{Refusal}
-use Rattle.curve.specs.Refusals.{_orElse_, parameterRefusal}
+use Rattle.curve.specs.Refusals.{_orElse_, parameterRefusal, unlessAt}
 use Rattle.curve.specs.Calls.{evaluated}
-use Rattle.card_text.specs.Reading.{unlessAt, cardRefusal, readCard}
+use Rattle.card_text.specs.Reading.{cardRefusal, readCard}
 
 -- ---- the bytes
 

@@ -26,9 +26,10 @@ use Rattle.card_text.specs.Card.{sides, row, rowLength}
 use Rattle.card_text.specs.Reading.{readCard}
 use Rattle.card_text.proofs.Fitting.{row-put, row-long}
 use Rattle.card_text.proofs.Promises.{read-is-written}
+use Rattle.curve.proofs.BoundsHeld.{bounds-held}
+use Rattle.curve.proofs.Loads.{load-held}
 use Rattle.card_report.specs.Report.{mostBytes, curveLines}
-use Rattle.card_report.proofs.Answer.{half-held, lines-long, refusal-long, refusal-put, read-within, shown-refused, shown-accepted, too-short, reported}
-use Rattle.card_report.proofs.BoundsHeld.{bounds-held}
+use Rattle.card_report.proofs.Answer.{lines-long, refusal-long, refusal-put, read-within, shown-refused, shown-accepted, too-short, reported}
 use Rattle.card_report.proofs.report.Statement.{statement}
 use Rattle.card_report.proofs.report.Tie as tie
 
@@ -162,11 +163,11 @@ returns-3 c =
     let first = row (bounded (curveIn e) .rect) in
     let second = row (evaluated (curveIn e) 1 2 .load) in
     let last = p .put-line2 .last .0 in
-    let held = bounds-held (curveIn e) (ok e) in
+    let held = bounds-held (curveIn e) in
     let one : last ≡ placed out 0 first = row-in out 0 (p .put-line2 .ensures .1) (s .sides .ensures) (enclosed (v .before)) held (omega arith) in
     let two : q .put-line3 .last .0 ≡ placed last 41 second =
-    row-in last 41 (q .put-line3 .ensures .1) (t .sides2 .ensures) (halved v) (half-held (curveIn e) (ok e)) (omega (arith, p .put-line2 .kept .0)) in
-    reported (inputOf r) out enough (shown-accepted (inputOf r) (none e)) (lines-long (curveIn e) (ok e))
+    row-in last 41 (q .put-line3 .ensures .1) (t .sides2 .ensures) (halved v) (load-held (curveIn e) 1 2) (omega (arith, p .put-line2 .kept .0)) in
+    reported (inputOf r) out enough (shown-accepted (inputOf r) (none e)) (lines-long (curveIn e))
     (two ∙ placed-then out 0 41 first second last (row-long held) (omega arith) one)
 
 pub report-spec : {M : Type 1} → statement M

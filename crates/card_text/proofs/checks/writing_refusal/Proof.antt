@@ -4,8 +4,7 @@ use mathlib.Core.Path.{ap, ap₂, _∙_}
 use Prim.Native.Nat.{ℕ}
 use lib.Dec.{leb}
 use Rattle.curve.specs.declared.Refusal.{Refusal}
-use Rattle.curve.specs.Refusals.{_orElse_}
-use Rattle.card_text.specs.Reading.{unlessAt}
+use Rattle.curve.specs.Refusals.{_orElse_, unlessAt}
 use Rattle.card_text.specs.Writing.{writingRefusal}
 use borrow.Author.Needs.{needs}
 use Rattle.card_text.proofs.checks.writing_refusal.Statement.{statement}
