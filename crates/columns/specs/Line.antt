@@ -34,14 +34,7 @@ unfoldable pub allFit : List ℤ → Bool
 allFit [] = true
 allFit (z ∷ zs) = fitsColumn z && allFit zs
 
--- whether the columns of some numbers fit at an offset, and the bytes after an attempt to put them there
-unfoldable pub canPutColumns : List ℕ → ℕ → List ℤ → Bool
-canPutColumns bytes at zs = leb (at + 10 * length zs) (length bytes) && allFit zs
-
-unfoldable pub afterColumns : List ℕ → ℕ → List ℤ → List ℕ
-afterColumns bytes at zs = cond (canPutColumns bytes at zs) (placed bytes at (columns zs)) bytes
-
--- the same of a line
+-- whether the line of some numbers fits at an offset, and the bytes after an attempt to put it there
 unfoldable pub canPutLine : List ℕ → ℕ → List ℤ → Bool
 canPutLine bytes at zs = leb (at + lineLength (length zs)) (length bytes) && allFit zs
 

@@ -1,4 +1,4 @@
-// Text columns ten bytes wide, each a decimal number set to the right: read from lent bytes, and written into a lent buffer alone or as lines.
+// Text columns ten bytes wide, each a decimal number set to the right: read from lent bytes, and written into a lent buffer in lines.
 // Every call takes anything and equals its definition in specs/.
 
 mod read;
@@ -17,6 +17,5 @@ pub const NEWLINE: u8 = 10;
 // Reading one column.
 pub use read::read_column;
 
-// Writing columns, without and with the end of their line.
-pub use write::put_columns;
+// Writing a line of columns.
 pub use write::put_line;

@@ -1,4 +1,4 @@
-// Writing numbers in columns. Nothing is written unless everything fits.
+// Writing lines of numbers in columns. Nothing is written unless everything fits.
 ghost use mathlib.Core.Path.{_≡_};
 ghost use mathlib.Core.Bool.{true};
 ghost use Prim.Native.Nat.{_+_, _*_, _^_, _<_, _≤_};
@@ -8,8 +8,6 @@ ghost use Rattle.columns.specs.Line.{
   placed,
   columns,
   allFit,
-  canPutColumns,
-  afterColumns,
   canPutLine,
   afterLine,
 };
@@ -18,20 +16,6 @@ use crate::text::column_of;
 use crate::text::fits_column;
 use crate::text::has_room;
 
-// Writes the columns of some numbers at an offset if all of them fit there, and says whether they did.
-pub fn put_columns(out: &mut [u8], at: usize, numbers: &[i64]) -> bool
-    ensures { λ r. ⌜ (r ≡ canPutColumns (now (out .entry)) at (now (numbers .entry))) × (now (out .exit) ≡ afterColumns (now (out .entry)) at (now (numbers .entry))) ⌝ }
-{
-    if !has_room(out.len(), at, numbers.len(), 0) {
-        return false;
-    }
-    if !all_fit(numbers) {
-        return false;
-    }
-    write_columns(out, at, numbers);
-    true
-}
-
 // Writes a line of numbers at an offset if all of it fits there, and says whether it did.
 pub fn put_line(out: &mut [u8], at: usize, numbers: &[i64]) -> bool
     ensures { λ r. ⌜ (r ≡ canPutLine (now (out .entry)) at (now (numbers .entry))) × (now (out .exit) ≡ afterLine (now (out .entry)) at (now (numbers .entry))) ⌝ }
@@ -39,9 +23,10 @@ pub fn put_line(out: &mut [u8], at: usize, numbers: &[i64]) -> bool
     if !has_room(out.len(), at, numbers.len(), 1) {
         return false;
     }
-    if !put_columns(out, at, numbers) {
+    if !all_fit(numbers) {
         return false;
     }
+    write_columns(out, at, numbers);
     out[at + 10 * numbers.len()] = NEWLINE;
     true
 }

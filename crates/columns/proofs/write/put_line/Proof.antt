@@ -1,14 +1,14 @@
--- `put_line` meets its contract: columns, and the line end behind them.
+-- `put_line` meets its contract: where there is room and the numbers fit, columns, and the line end behind them.
 -- Assumes nothing.
 use mathlib.Core.Path.{_≡_, sym, _∙_}
-use mathlib.Core.Bool.{Bool, true, false}
+use mathlib.Core.Bool.{true}
 use Prim.Native.Nat.{_+_, _≤_}
 use native.Mathlib.Omega.{arith}
 use lib.ListN.{length}
-use borrow.Author.Tests.{leb-true, not-true, not-false}
-use Rattle.columns.specs.Line.{line, lineLength, allFit, canPutLine, afterLine}
-use Rattle.columns.proofs.Put.{no-room, columns-fit, line-put, line-unfit, line-ended}
 use borrow.Author.Needs.{needs}
+use borrow.Author.Tests.{leb-true, not-true, not-false}
+use Rattle.columns.specs.Line.{lineLength, allFit}
+use Rattle.columns.proofs.Put.{no-room, no-fit, line-put, line-ended}
 use Rattle.columns.proofs.write.put_line.Statement.{statement}
 use Rattle.columns.proofs.write.put_line.Tie as tie
 
@@ -16,54 +16,47 @@ has-room-requires : tie.Need-has-room-requires
 has-room-requires c κs = search needs
 
 returns : tie.Need-returns
-unfolding canPutLine afterLine
 returns c =
     let a = c .before .before .before .args in
-    let zs = a .numbers .now in
-    no-room (a .out .now) (a .at) (lineLength (length zs)) zs (line zs) (sym (c .before .has-room .ensures) ∙ not-true (c .before .has-room .result) (c .if1 .taken))
+    no-room (a .out .now) (a .at) (a .numbers .now) (sym (c .before .has-room .ensures) ∙ not-true (c .before .has-room .result) (c .if1 .taken))
 
+-- what the two tests say
 room : (c : tie.Else1) → c .before .before .before .args .at + lineLength (length (c .before .before .before .args .numbers .now)) ≤ length (c .before .before .before .args .out .now)
 room c = leb-true _ _ (sym (c .before .has-room .ensures) ∙ not-false (c .before .has-room .result) (c .if1 .left))
 
--- whether the columns were put says whether the numbers fit
-fit-test : (c : tie.After-put-columns) (t : Bool) → c .put-columns .result ≡ t → allFit (c .before .before .before .before .before .args .numbers .now) ≡ t
-fit-test c t e =
-    let a = c .before .before .before .before .before .args in
-    sym (columns-fit (a .out .now) (a .at) (a .numbers .now) (room (c .before .before))) ∙ sym (c .put-columns .ensures .0) ∙ e
+fits : (c : tie.Else2) → allFit (c .before .before .before .before .before .args .numbers .now) ≡ true
+fits c = sym (c .before .all-fit .ensures) ∙ not-false (c .before .all-fit .result) (c .if2 .left)
 
-put-columns-requires : tie.Need-put-columns-requires
-put-columns-requires c κs = search needs
-
-same-length : tie.Need-same-length
-same-length c = search needs
+all-fit-requires : tie.Need-all-fit-requires
+all-fit-requires c κs = omega (arith, room c)
 
 returns-2 : tie.Need-returns-2
 returns-2 c =
-    let p = c .before .before .before in
-    let e = p .before .before in
-    let a = e .before .before .before .args in
-    let (cannot, kept) = line-unfit (a .out .now) (a .at) (a .numbers .now) (room e) (fit-test p false (not-true (p .put-columns .result) (c .if2 .taken))) in
-    (cannot, p .put-columns .ensures .1 ∙ kept)
+    let a = c .before .before .before .before .before .args in
+    no-fit (a .out .now) (a .at) (a .numbers .now) (sym (c .before .all-fit .ensures) ∙ not-true (c .before .all-fit .result) (c .if2 .taken))
+
+write-columns-requires : tie.Need-write-columns-requires
+write-columns-requires c κs = (fits (c .before), omega (arith, room (c .before .before .before)))
 
 mul-out : tie.Need-mul-out
 mul-out c = search needs
 
 add-out : tie.Need-add-out
-add-out c = omega (arith, room (c .before .before .before .before .before))
+add-out c = omega (arith, room (c .before .before .before .before .before .before))
 
 slice-write-out : tie.Need-slice-write-out
-slice-write-out c = omega (arith, room (c .before .before .before .before .before), c .before .before .before .put-columns .kept .0)
+slice-write-out c = omega (arith, room (c .before .before .before .before .before .before), c .before .before .write-columns .kept .0)
 
-same-length-2 : tie.Need-same-length-2
-same-length-2 c = search needs
+same-length : tie.Need-same-length
+same-length c = search needs
 
 returns-3 : tie.Need-returns-3
 returns-3 c =
-    let p = c .before .before .before in
-    let e = p .before .before in
-    let a = e .before .before .before .args in
-    let fits = fit-test p true (not-false (p .put-columns .result) (c .if2 .left)) in
-    (sym (line-put (a .out .now) (a .at) (a .numbers .now) fits (room e) .0), line-ended (a .out .now) (a .at) (a .numbers .now) (room e) fits (p .put-columns .ensures .1))
+    let w = c .before .before in
+    let e = w .before .before in
+    let a = e .before .before .before .before .before .args in
+    let (can, after) = line-put (a .out .now) (a .at) (a .numbers .now) (fits e) (room (e .before .before)) in
+    (sym can, line-ended (a .out .now) (a .at) (a .numbers .now) (fits e) (room (e .before .before)) (w .write-columns .ensures) ∙ sym after)
 
 pub put-line-spec : {M : Type 1} → statement M
 put-line-spec =
@@ -71,11 +64,11 @@ put-line-spec =
     (tie.spec
     has-room-requires
     returns
-    put-columns-requires
-    same-length
+    all-fit-requires
     returns-2
+    write-columns-requires
     mul-out
     add-out
     slice-write-out
-    same-length-2
+    same-length
     returns-3)
