@@ -28,11 +28,11 @@ use curve::Rect;
 pub const SHORT: u32 = 100;
 
 // The sides of a rectangle, of a curve, and of the two pieces of a subdivision.
-pub const RECT_SIDES: usize = 4;
+const RECT_SIDES: usize = 4;
 
-pub const CURVE_SIDES: usize = RECT_SIDES * PLACES;
+const CURVE_SIDES: usize = RECT_SIDES * PLACES;
 
-pub const PIECES_SIDES: usize = 2 * CURVE_SIDES;
+const PIECES_SIDES: usize = 2 * CURVE_SIDES;
 
 // The last place of a curve's record.
 const LAST_PLACE: usize = PLACES - 1;
