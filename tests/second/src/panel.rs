@@ -52,7 +52,7 @@ pub fn compare(call: PanelCall, rng: &mut Rng, tally: &mut Tally) -> Result<(), 
     let agrees = number == expected_number && came == expected;
     tally.compare(ROW, agrees, || {
         let given = format!(
-            "card of {} bytes\n{}{num}/{den}",
+            "the answer differs\ncard of {} bytes\n{}{num}/{den}",
             card.len(),
             visible(&card)
         );
@@ -63,7 +63,7 @@ pub fn compare(call: PanelCall, rng: &mut Rng, tally: &mut Tally) -> Result<(), 
     })
 }
 
-/// A length from 0 to the longest, half of them long enough for the answer.
+/// A length from 0 to the longest; every other one is drawn from those that the answer fits in.
 fn buffer_length(rng: &mut Rng) -> usize {
     let shortest = rng.pick(&[0, NEEDED]);
     shortest + rng.below((LONGEST + 1 - shortest) as u64) as usize

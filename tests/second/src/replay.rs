@@ -99,7 +99,7 @@ fn compare_case<'a>(
         let line = lines.next().unwrap_or(b"");
         tally.compare(row_of(call), line == expected, || {
             let message = disagreement(&text_of(case), &expected, line);
-            format!("answer {k} (0: the card's) differs\n{message}")
+            format!("answer {k} (0: the card's): {message}")
         })?;
         count_answer(call, &answer, tally);
         if let Some(entry) = entry {

@@ -127,7 +127,7 @@ impl Tally {
 /// The message of a disagreement.
 pub fn disagreement(given: &[u8], expected: &[u8], came: &[u8]) -> String {
     let [given, expected, came] = [given, expected, came].map(visible);
-    format!("given\n{given}expected\n{expected}came\n{came}")
+    format!("the answer differs\ngiven\n{given}expected\n{expected}came\n{came}")
 }
 
 /// Bytes as text, a line to each line, every byte to be seen.
@@ -174,7 +174,7 @@ mod tests {
     #[test]
     fn shows_every_byte() {
         let came = [b" 1\n".as_slice(), b"\t\xff"].concat();
-        let message = "given\nexpected\n 2\\n\ncame\n 1\\n\n\\t\\xff\n";
+        let message = "the answer differs\ngiven\nexpected\n 2\\n\ncame\n 1\\n\n\\t\\xff\n";
         assert_eq!(disagreement(b"", b" 2\n", &came), message);
     }
 }
