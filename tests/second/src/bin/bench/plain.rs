@@ -1,5 +1,6 @@
 //! The plain side: what one would write by hand in Rust for the same slices and the same refusals. One
-//! table in place, sides of 32 bits, products of 64 bits, and one division for each side.
+//! table in place, sides of 32 bits, products of 64 bits, and one division for each side. Neither
+//! side works out the ohms: nothing here reads ours, so the compiler leaves them out.
 
 use crate::{CURVE_SIDES, RECT_SIDES};
 use second::model::{MAX_DEN, MAX_SIDE, PLACES};
