@@ -189,7 +189,7 @@ mod tests {
     }
 
     #[test]
-    fn reads_in_rounded_stages() {
+    fn evaluates_in_rounded_stages() {
         assert_eq!(values(&[1, 0, 3]).evaluate(at(1, 2)), Ok([0, 2, 0, 0]));
         assert_eq!(values(&[1, 0, 3]).evaluate(at(0, 1)), Ok([1, 1, 0, 0]));
         assert_eq!(values(&[1, 0, 3]).evaluate(at(7, 7)), Ok([3, 3, 0, 0]));
@@ -200,7 +200,7 @@ mod tests {
     }
 
     #[test]
-    fn cuts_into_the_two_edges_of_the_table() {
+    fn subdivides_into_the_two_edges_of_the_table() {
         let (left, right) = values(&[1, 0, 3]).subdivide(at(1, 2)).unwrap();
         assert_eq!(resistances(&left), [[1, 1], [0, 1], [0, 2]]);
         assert_eq!(resistances(&right), [[0, 2], [1, 2], [3, 3]]);
