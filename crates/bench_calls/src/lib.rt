@@ -1,10 +1,14 @@
 // evaluate and subdivide on lent slices of sides, for the benchmark to call from Rust beside its own.
-// A curve is of degree 8: its 36 sides stand in the order of the rectangles, and of each rectangle's sides.
+// A curve has the highest degree: its sides stand in the order of the control points, and of each rectangle's sides.
 ghost use mathlib.Core.Path.{_≡_};
 ghost use Prim.Native.Nat.{_+_, _≤_, _<_};
 ghost use lib.ListN.{length};
+ghost use Rattle.curve.specs.Limits.{places};
 ghost use Rattle.curve.specs.Curve.{point};
 ghost use Rattle.bench_calls.specs.Slices.{
+  rectSides,
+  curveSides,
+  enough,
   rectFrom,
   curveFrom,
   withRect,
@@ -16,19 +20,37 @@ ghost use Rattle.bench_calls.specs.Slices.{
 };
 use curve::Curve;
 use curve::Interval;
+use curve::MAX_DEGREE;
 use curve::PLACES;
 use curve::Rect;
 
-// The answer where a slice is too short.
+// The answer where a slice is too short. No refusal has this number.
 pub const SHORT: u32 = 100;
 
-// The rectangle whose sides stand at 4 × k.
+// The sides of a rectangle, of a curve, and of the two pieces of a subdivision.
+const RECT_SIDES: usize = 4;
+
+const CURVE_SIDES: usize = RECT_SIDES * PLACES;
+
+const PIECES_SIDES: usize = 2 * CURVE_SIDES;
+
+// The last place of a curve's record.
+const LAST_PLACE: usize = PLACES - 1;
+
+// Whether the lent slices hold a curve's sides and have the room that is needed for the result.
+fn long_enough(sides: usize, room: usize, needed: usize) -> bool
+    ensures { λ r. ⌜ r ≡ enough sides room needed ⌝ }
+{
+    CURVE_SIDES <= sides && needed <= room
+}
+
+// The k-th rectangle of a slice of sides.
 fn rect_from(sides: &[i32], k: usize) -> Rect
-    requires { ⌜ k < 9 ⌝ }
-    requires { ⌜ 36 ≤ length (now sides) ⌝ }
+    requires { ⌜ k < places ⌝ }
+    requires { ⌜ curveSides ≤ length (now sides) ⌝ }
     ensures { λ r. ⌜ r ≡ rectFrom (now (sides .entry)) k ⌝ }
 {
-    let at = 4 * k;
+    let at = RECT_SIDES * k;
     Rect {
         resistance: Interval {
             low: sides[at],
@@ -41,8 +63,9 @@ fn rect_from(sides: &[i32], k: usize) -> Rect
     }
 }
 
+// The curve of the highest degree with these sides.
 fn curve_from(sides: &[i32]) -> Curve
-    requires { ⌜ 36 ≤ length (now sides) ⌝ }
+    requires { ⌜ curveSides ≤ length (now sides) ⌝ }
     ensures { λ r. ⌜ r ≡ curveFrom (now (sides .entry)) ⌝ }
 {
     let zero = Interval { low: 0, high: 0 };
@@ -52,15 +75,19 @@ fn curve_from(sides: &[i32]) -> Curve
     }; PLACES];
     points[0] = rect_from(sides, 0);
     let mut k = 0;
-    while k < 8 {
+    while k < LAST_PLACE {
         k += 1;
         points[k] = rect_from(sides, k);
     }
-    Curve { degree: 8, points }
+    Curve {
+        degree: MAX_DEGREE,
+        points,
+    }
 }
 
+// Stores a rectangle's sides at an offset.
 fn put_rect(out: &mut [i32], at: usize, p: Rect)
-    requires { ⌜ at + 4 ≤ length (now out) ⌝ }
+    requires { ⌜ at + rectSides ≤ length (now out) ⌝ }
     ensures { λ r. ⌜ now (out .exit) ≡ withRect (now (out .entry)) at p ⌝ }
 {
     let r = p.resistance;
@@ -75,14 +102,15 @@ fn put_rect(out: &mut [i32], at: usize, p: Rect)
     out[at + 3] = xhigh;
 }
 
+// Stores the sides of all places of a curve's record from an offset on.
 fn put_points(out: &mut [i32], at: usize, c: Curve)
-    requires { ⌜ at + 36 ≤ length (now out) ⌝ }
-    ensures { λ r. ⌜ now (out .exit) ≡ withPoints (now (out .entry)) at (point c) 9 ⌝ }
+    requires { ⌜ at + curveSides ≤ length (now out) ⌝ }
+    ensures { λ r. ⌜ now (out .exit) ≡ withPoints (now (out .entry)) at (point c) places ⌝ }
 {
     let mut k = 0;
     while k < PLACES {
         let p = c.points[k];
-        put_rect(out, at + 4 * k, p);
+        put_rect(out, at + RECT_SIDES * k, p);
         k += 1;
     }
 }
@@ -92,10 +120,7 @@ fn put_points(out: &mut [i32], at: usize, c: Curve)
 pub extern "C" fn bench_evaluate(sides: &[i32], num: u32, den: u32, out: &mut [i32]) -> u32
     ensures { λ r. ⌜ (r ≡ evaluateNumber (now (sides .entry)) num den (now (out .entry))) × (now (out .exit) ≡ evaluateOut (now (sides .entry)) num den (now (out .entry))) ⌝ }
 {
-    if sides.len() < 36 {
-        return SHORT;
-    }
-    if out.len() < 4 {
+    if !long_enough(sides.len(), out.len(), RECT_SIDES) {
         return SHORT;
     }
     let answer = curve::evaluate(curve_from(sides), num, den);
@@ -104,21 +129,18 @@ pub extern "C" fn bench_evaluate(sides: &[i32], num: u32, den: u32, out: &mut [i
     answer.refusal.number
 }
 
-// The refusal's number, or SHORT; the sides of both pieces stand in front of out, 36 of each.
+// The refusal's number, or SHORT; the sides of the left piece and then of the right stand in front of out.
 #[no_mangle]
 pub extern "C" fn bench_subdivide(sides: &[i32], num: u32, den: u32, out: &mut [i32]) -> u32
     ensures { λ r. ⌜ (r ≡ subdivideNumber (now (sides .entry)) num den (now (out .entry))) × (now (out .exit) ≡ subdivideOut (now (sides .entry)) num den (now (out .entry))) ⌝ }
 {
-    if sides.len() < 36 {
-        return SHORT;
-    }
-    if out.len() < 72 {
+    if !long_enough(sides.len(), out.len(), PIECES_SIDES) {
         return SHORT;
     }
     let answer = curve::subdivide(curve_from(sides), num, den);
     let left = answer.left;
     let right = answer.right;
     put_points(out, 0, left);
-    put_points(out, 36, right);
+    put_points(out, CURVE_SIDES, right);
     answer.refusal.number
 }

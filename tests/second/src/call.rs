@@ -1,31 +1,35 @@
 //! The calls that a list is made of, and the curve that each leaves.
 
 use crate::model::{Curve, Parameter};
-use crate::walk::Walk;
+use crate::search::Search;
 
+/// Which piece of a subdivision is kept.
 #[derive(Clone, Copy, PartialEq, Debug)]
 pub enum Kept {
     Left,
     Right,
 }
 
+/// A call; the paper's names are reading, cut, raising, span and walk.
 #[derive(Clone, Copy, PartialEq, Debug)]
 pub enum Call {
-    Reading(Parameter),
-    Cut(Parameter, Kept),
-    Raising,
-    Span,
-    Walk(Walk),
+    Evaluate(Parameter),
+    Subdivide(Parameter, Kept),
+    Elevate,
+    Bounds,
+    Search(Search),
 }
 
 impl Call {
-    /// The curve that a call leaves.
+    /// The curve that a call leaves: a refused one leaves the curve it got.
     pub fn leaves(&self, curve: &Curve) -> Curve {
         match self {
-            Call::Cut(t, Kept::Left) => curve.cut(*t).map_or(*curve, |(left, _)| left),
-            Call::Cut(t, Kept::Right) => curve.cut(*t).map_or(*curve, |(_, right)| right),
-            Call::Raising => curve.raised().unwrap_or(*curve),
-            Call::Reading(_) | Call::Span | Call::Walk(_) => *curve,
+            Call::Subdivide(t, Kept::Left) => curve.subdivide(*t).map_or(*curve, |(left, _)| left),
+            Call::Subdivide(t, Kept::Right) => {
+                curve.subdivide(*t).map_or(*curve, |(_, right)| right)
+            }
+            Call::Elevate => curve.elevate().unwrap_or(*curve),
+            Call::Evaluate(_) | Call::Bounds | Call::Search(_) => *curve,
         }
     }
 }

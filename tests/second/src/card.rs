@@ -1,6 +1,6 @@
 //! The card's text: columns ten bytes wide, lines of columns, and the card that they make.
 
-use crate::model::{refuse_if, Curve, Rectangle, Refusal, MOST_DEGREE};
+use crate::model::{refuse_if, Curve, Rectangle, Refusal, MAX_DEGREE};
 use std::io::Write;
 
 pub const COLUMN: usize = 10;
@@ -40,7 +40,7 @@ pub fn card_length(degree: usize) -> usize {
 /// The card of a curve, whose sides may be out of range.
 pub fn card_of(curve: &Curve) -> Vec<u8> {
     let mut card = line_of(&[curve.degree as i64]);
-    for rectangle in curve.rectangles() {
+    for rectangle in curve.control_points() {
         card.extend(line_of(rectangle));
     }
     card
@@ -70,7 +70,7 @@ pub fn numbers_in<const N: usize>(bytes: &[u8]) -> Option<[i64; N]> {
 pub fn degree_of(card: &[u8]) -> Result<usize, Refusal> {
     refuse_if(card.len() < FIRST_LINE, 10, card.len())?;
     let [degree] = numbers_at(card, 0)?;
-    refuse_if(degree < 1 || degree > MOST_DEGREE as i64, 1, 0)?;
+    refuse_if(degree < 1 || degree > MAX_DEGREE as i64, 1, 0)?;
     Ok(degree as usize)
 }
 
@@ -83,7 +83,7 @@ pub fn curve_of(card: &[u8]) -> Result<Curve, Refusal> {
         rectangles.push(numbers_at(card, FIRST_LINE + LINE * k)?);
     }
     let curve = Curve::new(&rectangles);
-    curve.test()?;
+    curve.check()?;
     Ok(curve)
 }
 

@@ -1,202 +1,222 @@
-//! The cases: curves, parameters and lists of calls, drawn by chance from a fixed seed.
+//! The cases: curves, parameters and lists of calls, drawn from a fixed seed.
 
 use crate::call::{Call, Kept};
-use crate::chance::Chance;
-use crate::model::{Curve, Parameter, Rectangle, FARTHEST, MOST_DEN};
-use crate::walk::Walk;
+use crate::model::{Curve, Parameter, Rectangle, MAX_DEN, MAX_SIDE};
+use crate::rng::Rng;
+use crate::search::Search;
 
-/// The greatest number that a call line of `replay` can give.
-pub const MOST: i64 = 4_294_967_295;
+/// The largest number that a call line of `replay` can give for an unsigned 32-bit number.
+pub const MAX_WORD: i64 = 4_294_967_295;
 
-/// A curve as it stands on a card, sides out of range or crossed among them, and calls from it.
+/// A curve as it stands on a card, where a side may be out of range or a low above its high, and calls
+/// from it.
 pub struct Case {
     pub card: Curve,
     pub calls: Vec<Call>,
 }
 
-pub fn case(chance: &mut Chance, degree: usize) -> Case {
-    let mut card = curve(chance, degree);
-    let span = card.span().expect("an accepted curve");
-    let calls = (0..chance.between(1, 6))
-        .map(|_| call(chance, &span))
-        .collect();
-    if chance.one_in(12) {
-        spoil(chance, &mut card);
+pub fn case(rng: &mut Rng, degree: usize) -> Case {
+    let mut card = curve(rng, degree);
+    let bounds = card.bounds().expect("an accepted curve");
+    let calls = list(rng, &bounds);
+    if rng.one_in(12) {
+        spoil(rng, &mut card);
     }
     Case { card, calls }
 }
 
+/// The most calls of a list.
+pub const MAX_CALLS: i64 = 6;
+
+/// A list of calls; one in eight changes the curve at every call but the last, which evaluates it.
+fn list(rng: &mut Rng, bounds: &Rectangle) -> Vec<Call> {
+    let length = rng.between(1, MAX_CALLS);
+    if !rng.one_in(8) {
+        return (0..length).map(|_| call(rng, bounds)).collect();
+    }
+    let mut calls: Vec<Call> = (1..length).map(|_| changing_call(rng)).collect();
+    calls.push(Call::Evaluate(parameter(rng)));
+    calls
+}
+
 /// An accepted curve.
-pub fn curve(chance: &mut Chance, degree: usize) -> Curve {
-    let style = chance.below(6);
-    let rectangles: Vec<Rectangle> = (0..=degree).map(|_| rectangle(chance, style)).collect();
+pub fn curve(rng: &mut Rng, degree: usize) -> Curve {
+    let style = rng.below(6);
+    let rectangles: Vec<Rectangle> = (0..=degree).map(|_| rectangle(rng, style)).collect();
     Curve::new(&rectangles)
 }
 
-fn rectangle(chance: &mut Chance, style: u64) -> Rectangle {
-    let (resistance, reactance) = (sides(chance, style), sides(chance, style));
+fn rectangle(rng: &mut Rng, style: u64) -> Rectangle {
+    let (resistance, reactance) = (sides(rng, style), sides(rng, style));
     [resistance.0, resistance.1, reactance.0, reactance.1]
 }
 
 /// A low and a high.
-fn sides(chance: &mut Chance, style: u64) -> (i64, i64) {
-    let width = |low: i64, width: i64| (low, (low + width).min(FARTHEST));
+fn sides(rng: &mut Rng, style: u64) -> (i64, i64) {
+    let width = |low: i64, width: i64| (low, (low + width).min(MAX_SIDE));
     let sorted = |a: i64, b: i64| (a.min(b), a.max(b));
     match style {
         // A few steps, where every rounding shows.
-        0 => width(chance.between(-4, 4), chance.between(0, 3)),
+        0 => width(rng.between(-4, 4), rng.between(0, 3)),
         // Values: low equal to high.
-        1 => width(chance.between(-9, 9), 0),
-        2 => width(chance.between(-FARTHEST, FARTHEST), 0),
+        1 => width(rng.between(-9, 9), 0),
+        2 => width(rng.between(-MAX_SIDE, MAX_SIDE), 0),
         // A measurement within its margin.
-        3 => width(chance.between(-500_000, 500_000), chance.between(0, 3_000)),
+        3 => width(rng.between(-500_000, 500_000), rng.between(0, 3_000)),
         4 => sorted(
-            chance.between(-FARTHEST, FARTHEST),
-            chance.between(-FARTHEST, FARTHEST),
+            rng.between(-MAX_SIDE, MAX_SIDE),
+            rng.between(-MAX_SIDE, MAX_SIDE),
         ),
-        _ => sorted(extreme(chance), extreme(chance)),
+        _ => sorted(extreme(rng), extreme(rng)),
     }
 }
 
-fn extreme(chance: &mut Chance) -> i64 {
-    chance.pick(&[-FARTHEST, 1 - FARTHEST, -1, 0, 1, FARTHEST - 1, FARTHEST])
+fn extreme(rng: &mut Rng) -> i64 {
+    rng.pick(&[-MAX_SIDE, 1 - MAX_SIDE, -1, 0, 1, MAX_SIDE - 1, MAX_SIDE])
 }
 
-/// Puts sides out of range, or a low above its high, in one to three places.
-pub fn spoil(chance: &mut Chance, curve: &mut Curve) {
+/// Puts sides out of range, or a low above its high, in one to three points.
+pub fn spoil(rng: &mut Rng, curve: &mut Curve) {
     let too_far = [
-        FARTHEST + 1,
-        -FARTHEST - 1,
+        MAX_SIDE + 1,
+        -MAX_SIDE - 1,
         999_999_999,
         -999_999_999,
         9_999_999_999,
         2_147_483_648,
     ];
-    for _ in 0..chance.between(1, 3) {
-        let k = chance.below(curve.degree as u64 + 1) as usize;
-        let low = chance.pick(&[0, 2]);
-        let high_side = curve.places[k][low + 1];
-        if chance.one_in(2) {
-            curve.places[k][low] = (high_side + chance.between(1, 3)).min(FARTHEST);
+    for _ in 0..rng.between(1, 3) {
+        let k = rng.below(curve.degree as u64 + 1) as usize;
+        let low = rng.pick(&[0, 2]);
+        let high_side = curve.points[k][low + 1];
+        if rng.one_in(2) {
+            curve.points[k][low] = (high_side + rng.between(1, 3)).min(MAX_SIDE);
         } else {
-            curve.places[k][low + chance.below(2) as usize] = chance.pick(&too_far);
+            curve.points[k][low + rng.below(2) as usize] = rng.pick(&too_far);
         }
     }
 }
 
 /// A parameter, one in twelve of them refused.
-pub fn parameter(chance: &mut Chance) -> Parameter {
-    if chance.one_in(12) {
-        return refused_parameter(chance);
+pub fn parameter(rng: &mut Rng) -> Parameter {
+    if rng.one_in(12) {
+        return refused_parameter(rng);
     }
-    let den = match chance.below(5) {
-        0 => 2 * chance.between(1, 3),
-        1 => chance.between(1, 10),
-        2 => MOST_DEN,
-        _ => chance.between(1, MOST_DEN),
+    let den = match rng.below(5) {
+        0 => 2 * rng.between(1, 3),
+        1 => rng.between(1, 10),
+        2 => MAX_DEN,
+        _ => rng.between(1, MAX_DEN),
     };
-    let num = match chance.below(8) {
+    let num = match rng.below(8) {
         0 => 0,
         1 => den,
         2 | 3 => den / 2,
-        _ => chance.between(0, den),
+        _ => rng.between(0, den),
     };
     Parameter { num, den }
 }
 
-fn refused_parameter(chance: &mut Chance) -> Parameter {
-    let den = chance.between(1, MOST_DEN);
-    let (num, den) = chance.pick(&[
+fn refused_parameter(rng: &mut Rng) -> Parameter {
+    let den = rng.between(1, MAX_DEN);
+    let (num, den) = rng.pick(&[
         (0, 0),
         (1, 0),
-        (0, MOST_DEN + 1),
-        (MOST, MOST_DEN + 1),
-        (1, MOST),
+        (0, MAX_DEN + 1),
+        (MAX_WORD, MAX_DEN + 1),
+        (1, MAX_WORD),
         (den + 1, den),
-        (MOST_DEN + 1, den),
-        (MOST, den),
+        (MAX_DEN + 1, den),
+        (MAX_WORD, den),
     ]);
     Parameter { num, den }
 }
 
-fn call(chance: &mut Chance, span: &Rectangle) -> Call {
-    match chance.below(20) {
-        0..=6 => Call::Reading(parameter(chance)),
-        7..=9 => Call::Cut(parameter(chance), Kept::Left),
-        10..=12 => Call::Cut(parameter(chance), Kept::Right),
-        13..=15 => Call::Raising,
-        16 => Call::Span,
-        _ => Call::Walk(walk(chance, span)),
+fn call(rng: &mut Rng, bounds: &Rectangle) -> Call {
+    match rng.below(20) {
+        0..=6 => Call::Evaluate(parameter(rng)),
+        7..=15 => changing_call(rng),
+        16 => Call::Bounds,
+        _ => Call::Search(search(rng, bounds)),
     }
 }
 
-fn walk(chance: &mut Chance, span: &Rectangle) -> Walk {
-    let area = if chance.one_in(20) {
-        refused_area(chance)
+/// A call that leaves another curve than it got, unless it is refused.
+fn changing_call(rng: &mut Rng) -> Call {
+    match rng.below(3) {
+        0 => Call::Subdivide(parameter(rng), Kept::Left),
+        1 => Call::Subdivide(parameter(rng), Kept::Right),
+        _ => Call::Elevate,
+    }
+}
+
+fn search(rng: &mut Rng, bounds: &Rectangle) -> Search {
+    let limits = if rng.one_in(20) {
+        refused_limits(rng)
     } else {
-        area(chance, span)
+        limits(rng, bounds)
     };
-    let depth = match chance.below(100) {
-        0..=2 => chance.pick(&[13, 14, MOST]),
-        3..=11 => chance.between(6, 12),
-        _ => chance.between(0, 5),
+    let depth = match rng.below(100) {
+        0..=2 => rng.pick(&[13, 14, MAX_WORD]),
+        3..=11 => rng.between(6, 12),
+        _ => rng.between(0, 5),
     };
-    let budget = match chance.below(20) {
-        0 => chance.pick(&[0, 8_192, MOST]),
-        1..=3 => chance.between(1, 9),
-        4..=6 => chance.between(1, 127),
+    let budget = match rng.below(20) {
+        0 => rng.pick(&[0, 8_192, MAX_WORD]),
+        1..=3 => rng.between(1, 9),
+        4..=6 => rng.between(1, 127),
         _ => 8_191,
     };
-    // To save time, a deep walk seldom has a large budget.
-    let budget = if depth > 8 && !chance.one_in(4) {
+    // To save time, a deep search seldom has a large budget.
+    let budget = if depth > 8 && !rng.one_in(4) {
         budget.min(500)
     } else {
         budget
     };
-    Walk {
-        area,
+    Search {
+        limits,
         depth,
         budget,
     }
 }
 
-/// A box that has to do with the span of the curve.
-fn area(chance: &mut Chance, span: &Rectangle) -> Rectangle {
-    let mut area = *span;
-    let style = chance.below(6);
+/// A box near the bounds of the curve, so that every verdict comes.
+fn limits(rng: &mut Rng, bounds: &Rectangle) -> Rectangle {
+    let mut limits = *bounds;
+    let style = rng.below(6);
     for (low, high) in [(0, 1), (2, 3)] {
-        let width = span[high] - span[low];
+        let width = bounds[high] - bounds[low];
         match style {
-            // The span itself, or wider.
+            // The bounds itself, or wider.
             0 => {
-                let grown = chance.pick(&[0, 0, 1, 1_000]);
-                area[low] = (span[low] - grown).max(-FARTHEST);
-                area[high] = (span[high] + grown).min(FARTHEST);
+                let grown = rng.pick(&[0, 0, 1, 1_000]);
+                limits[low] = (bounds[low] - grown).max(-MAX_SIDE);
+                limits[high] = (bounds[high] + grown).min(MAX_SIDE);
             }
-            // Small, about a point of the span.
+            // Small, about a point of the bounds.
             1 => {
-                area[low] = chance.between(span[low], span[high]);
-                area[high] = (area[low] + width / 8).min(FARTHEST);
+                limits[low] = rng.between(bounds[low], bounds[high]);
+                limits[high] = (limits[low] + width / 8).min(MAX_SIDE);
             }
             // Narrower at one end or both, or not at all.
             _ => {
-                area[low] += width / chance.pick(&[2, 3, 8, 64, 1 << 40, 1 << 40]);
-                area[high] -= width / chance.pick(&[2, 3, 8, 64, 1 << 40, 1 << 40]);
+                limits[low] += width / rng.pick(&[2, 3, 8, 64, 1 << 40, 1 << 40]);
+                limits[high] -= width / rng.pick(&[2, 3, 8, 64, 1 << 40, 1 << 40]);
             }
         }
     }
-    area
+    limits
 }
 
-fn refused_area(chance: &mut Chance) -> Rectangle {
-    chance.pick(&[
+fn refused_limits(rng: &mut Rng) -> Rectangle {
+    rng.pick(&[
         [1, 0, 0, 0],
         [0, 0, 1, 0],
-        [-FARTHEST - 1, 0, 0, 0],
-        [0, FARTHEST + 1, 0, 0],
+        [-MAX_SIDE - 1, 0, 0, 0],
+        [0, MAX_SIDE + 1, 0, 0],
         [0, 0, -999_999_999, 0],
         [0, 0, 0, 2_147_483_647],
-        [FARTHEST + 1, 0, 0, 0],
+        [MAX_SIDE + 1, 0, 0, 0],
     ])
 }
 
@@ -204,16 +224,17 @@ fn refused_area(chance: &mut Chance) -> Rectangle {
 mod tests {
     use super::*;
 
+    /// Of 8,000 cards some 460 are refused with 2 and some 195 with 3.
     #[test]
     fn draws_accepted_and_refused_curves() {
-        let mut chance = Chance::new(3);
+        let mut rng = Rng::new(3);
         let mut numbers = [0; 4];
         for k in 0..8_000 {
-            let tested = case(&mut chance, 1 + k % 8).card.test();
+            let tested = case(&mut rng, 1 + k % 8).card.check();
             numbers[tested.map_or_else(|refusal| refusal.number as usize, |_| 0)] += 1;
         }
         assert!(
-            numbers[0] > 7_000 && numbers[2] > 200 && numbers[3] > 200,
+            numbers[0] > 7_000 && numbers[2] > 300 && numbers[3] > 100,
             "{numbers:?}"
         );
     }

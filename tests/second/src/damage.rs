@@ -1,61 +1,78 @@
 //! Cards, sound and damaged in many ways, and damage to any text.
 
 use crate::card::{card_of, line_of, COLUMN, FIRST_LINE, LINE};
-use crate::cases::{curve, spoil};
-use crate::chance::Chance;
+use crate::cases::{case, curve, spoil};
+use crate::model::MAX_DEGREE;
+use crate::rng::Rng;
+use crate::text::text_of;
 
 /// A card: sound, with a side too far or crossed, damaged once or twice, or no card at all.
-pub fn card(chance: &mut Chance) -> Vec<u8> {
-    let degree = chance.between(1, 8) as usize;
-    let mut drawn = curve(chance, degree);
-    if chance.one_in(6) {
-        spoil(chance, &mut drawn);
+pub fn card(rng: &mut Rng) -> Vec<u8> {
+    let degree = any_degree(rng);
+    let mut drawn = curve(rng, degree);
+    if rng.one_in(6) {
+        spoil(rng, &mut drawn);
     }
     let mut card = card_of(&drawn);
-    match chance.below(13) {
+    match rng.below(13) {
         0..=4 => {}
-        5 => put_column(chance, &mut card),
-        6 => put_degree(chance, &mut card),
-        7..=9 => damage(chance, &mut card),
+        5 => put_column(rng, &mut card),
+        6 => put_degree(rng, &mut card),
+        7..=9 => damage(rng, &mut card),
         10 => {
-            put_column(chance, &mut card);
-            damage(chance, &mut card);
+            put_column(rng, &mut card);
+            damage(rng, &mut card);
         }
         11 => {
-            damage(chance, &mut card);
-            damage(chance, &mut card);
+            damage(rng, &mut card);
+            damage(rng, &mut card);
         }
-        _ => card = (0..chance.below(450)).map(|_| byte(chance)).collect(),
+        _ => card = (0..rng.below(450)).map(|_| byte(rng)).collect(),
     }
     card
 }
 
+/// The text of three cases for `replay`, damaged once.
+pub fn cases_text(rng: &mut Rng) -> Vec<u8> {
+    let mut text = Vec::new();
+    for _ in 0..3 {
+        let degree = any_degree(rng);
+        text.extend(text_of(&case(rng, degree)));
+    }
+    damage(rng, &mut text);
+    text
+}
+
+fn any_degree(rng: &mut Rng) -> usize {
+    rng.between(1, MAX_DEGREE as i64) as usize
+}
+
 /// A byte changed, swapped, inserted or removed; the text cut short or made too long.
-pub fn damage(chance: &mut Chance, text: &mut Vec<u8>) {
+pub fn damage(rng: &mut Rng, text: &mut Vec<u8>) {
     let length = text.len() as u64;
-    let place = chance.below(length.max(1)) as usize;
-    match chance.below(if length == 0 { 1 } else { 8 }) {
-        0 => lengthen(chance, text),
+    let place = rng.below(length.max(1)) as usize;
+    match rng.below(if length == 0 { 1 } else { 8 }) {
+        0 => lengthen(rng, text),
         1 => text.truncate(place),
-        2 => text.insert(place, byte(chance)),
+        2 => text.insert(place, byte(rng)),
         3 => drop(text.remove(place)),
-        4 => text.swap(place, chance.below(length) as usize),
+        4 => text.swap(place, rng.below(length) as usize),
         5 => text.swap(place, (place + 1) % length as usize),
-        _ => text[place] = byte(chance),
+        _ => text[place] = byte(rng),
     }
 }
 
 /// Any byte, but mostly one that a card has or nearly has.
-fn byte(chance: &mut Chance) -> u8 {
-    if chance.one_in(4) {
-        return chance.draw() as u8;
+fn byte(rng: &mut Rng) -> u8 {
+    if rng.one_in(4) {
+        return rng.draw() as u8;
     }
-    chance.pick(b" \n-0123456789+.,x\t\r\0/:")
+    rng.pick(b" \n-0123456789+.,x\t\r\0/:")
 }
 
-fn lengthen(chance: &mut Chance, text: &mut Vec<u8>) {
-    let added = chance.pick(&[1, 1, 2, 10, 11, 41, 82, 400, 5_000]);
-    let filler = byte(chance);
+fn lengthen(rng: &mut Rng, text: &mut Vec<u8>) {
+    let added = rng.pick(&[1, 1, 2, 10, 11, 41, 82, 400, 5_000]);
+    let filler = byte(rng);
     text.resize(text.len() + added, filler);
 }
 
@@ -90,22 +107,22 @@ const COLUMNS: [&[u8; COLUMN]; 26] = [
 ];
 
 /// Puts another column into one of the lines after the first.
-fn put_column(chance: &mut Chance, card: &mut [u8]) {
-    let line = FIRST_LINE + LINE * chance.below((card.len() / LINE) as u64) as usize;
-    let first = line + COLUMN * chance.below(4) as usize;
-    card[first..first + COLUMN].copy_from_slice(&chance.pick(&COLUMNS)[..]);
+fn put_column(rng: &mut Rng, card: &mut [u8]) {
+    let line = FIRST_LINE + LINE * rng.below((card.len() / LINE) as u64) as usize;
+    let first = line + COLUMN * rng.below(4) as usize;
+    card[first..first + COLUMN].copy_from_slice(&rng.pick(&COLUMNS)[..]);
 }
 
 /// Puts another first line.
-fn put_degree(chance: &mut Chance, card: &mut [u8]) {
-    let degree = chance.between(-1, 12);
+fn put_degree(rng: &mut Rng, card: &mut [u8]) {
+    let degree = rng.between(-1, 12);
     let line = line_of(&[degree]);
     card[..FIRST_LINE].copy_from_slice(&line);
-    if chance.one_in(3) {
-        card[..COLUMN].copy_from_slice(&chance.pick(&COLUMNS)[..]);
+    if rng.one_in(3) {
+        card[..COLUMN].copy_from_slice(&rng.pick(&COLUMNS)[..]);
     }
-    if chance.one_in(4) {
-        card[COLUMN] = byte(chance);
+    if rng.one_in(4) {
+        card[COLUMN] = byte(rng);
     }
 }
 
@@ -116,10 +133,10 @@ mod tests {
 
     #[test]
     fn writes_an_accepted_card_again() {
-        let mut chance = Chance::new(5);
+        let mut rng = Rng::new(5);
         let mut accepted = 0;
         for _ in 0..20_000 {
-            let card = card(&mut chance);
+            let card = card(&mut rng);
             if let Ok(curve) = curve_of(&card) {
                 assert_eq!(card_of(&curve), card);
                 accepted += 1;

@@ -16,12 +16,12 @@ pub const PRINTED: &[u8] = b"         0         3        -3         2
 ";
 
 const EXAMPLES: [(&str, &str); 13] = [
-    // The card read at 1/2 and at 2/4, its two ends and its span.
+    // The card read at 1/2 and at 2/4, its two ends and its bounds.
     (
         "1 / 0 1 -3 -3 / 1 3 0 2 / 1 1 2 / 1 2 4 / 1 0 1 / 1 7 7 / 5 / 0",
         "0 1 / 0 0 2 -2 0 1 / 0 0 2 -2 0 1 / 0 0 1 -3 -3 1 / 0 1 3 0 2 1 / 0 0 3 -3 2",
     ),
-    // Values 1, 0, 3 read and cut.
+    // Values 1, 0, 3 evaluated and subdivided.
     (
         "2 / 1 1 0 0 / 0 0 0 0 / 3 3 0 0 / 1 1 2 / 2 1 2 / 0",
         "0 2 / 0 0 2 0 0 2 / 0 2 1 1 0 0 0 1 0 0 0 2 0 0 0 2 0 0 1 2 0 0 3 3 0 0",
@@ -31,12 +31,12 @@ const EXAMPLES: [(&str, &str); 13] = [
         "2 / 0 0 1 1 / 0 0 0 0 / 0 0 3 3 / 3 1 2 / 1 0 1 / 1 1 1 / 0",
         "0 2 / 0 2 0 0 1 1 0 0 0 1 0 0 0 2 0 0 0 2 0 0 1 2 0 0 3 3 / 0 0 0 0 2 4 / 0 0 0 3 3 4",
     ),
-    // Values 0, 1 raised, then read: the book's sum is 1 and 2.
+    // Values 0, 1 elevated, then read: the ledger's sum is 1 and 2.
     (
         "1 / 0 0 0 0 / 1 1 0 0 / 4 / 1 0 1 / 0",
         "0 1 / 0 2 0 0 0 0 0 1 0 0 1 1 0 0 / 0 0 0 0 0 3",
     ),
-    // Values 0, 0, -1 raised: the third is [-1, 0].
+    // Values 0, 0, -1 elevated: the third is [-1, 0].
     (
         "2 / 0 0 0 0 / 0 0 0 0 / -1 -1 0 0 / 4 / 0",
         "0 2 / 0 3 0 0 0 0 0 0 0 0 -1 0 0 0 -1 -1 0 0",
@@ -49,19 +49,19 @@ const EXAMPLES: [(&str, &str); 13] = [
         "1 / 0 0 0 0 / 1 1 0 0 / 1 0 65536 / 1 0 0 / 2 0 65537 / 3 1 0 / 1 8 7 / 0",
         "0 1 / 0 0 0 0 0 1 / 4 0 / 4 0 / 4 0 / 5 0",
     ),
-    // The walks.
+    // The searches.
     (
         "1 / 0 0 0 0 / 4 4 0 0 / 6 0 2 0 0 2 5 / 6 0 2 0 0 2 4 / 6 0 2 0 0 1 5 / 6 0 4 0 0 12 8191 / 0",
         "0 1 / 0 2 2 3 5 / 0 3 0 0 4 / 0 4 1 1 3 / 0 1 0 0 1",
     ),
-    // A walk at budget 8,191 that looks at every piece and isn't spent.
+    // A search at budget 8,191 that looks at every piece and isn't spent.
     ("1 / -1 1 -1 1 / -1 1 -1 1 / 6 0 0 0 0 12 8191 / 0", "0 1 / 0 4 12 0 8191"),
-    // The walk's refusals in number order.
+    // The search's refusals in number order.
     (
         "1 / 0 0 0 0 / 4 4 0 0 / 6 1 0 0 0 13 0 / 6 0 0 0 0 13 0 / 6 0 0 0 0 12 0 / 6 0 0 0 0 12 8192 / 0",
         "0 1 / 7 0 / 8 0 / 9 0 / 9 0",
     ),
-    // Raising stops at degree 8, and a refused call leaves the curve and the book.
+    // Raising stops at degree 8, and a refused call leaves the curve and the ledger.
     (
         "8 / 0 0 0 0 / 0 0 0 0 / 0 0 0 0 / 0 0 0 0 / 0 0 0 0 / 0 0 0 0 / 0 0 0 0 / 0 0 0 0 / 9 9 0 0 / 4 / 1 1 1 / 0",
         "0 8 / 6 0 / 0 9 9 0 0 8",
@@ -87,10 +87,12 @@ fn text_of(lines: &str) -> Vec<u8> {
 pub fn compare(program: &Path, tally: &mut Tally) -> Result<(), String> {
     for (given, answers) in EXAMPLES {
         let (given, expected) = (text_of(given), text_of(answers));
-        let came = run(program, &given)?.bytes;
-        tally.count("replay, examples of document 01", came == expected, || {
-            disagreement(&given, &expected, &came)
-        })?;
+        let came = run(program, &given)?;
+        tally.compare(
+            "replay, examples of document 01",
+            came.is(&expected),
+            || disagreement(&given, &expected, &came.bytes),
+        )?;
     }
     Ok(())
 }
@@ -103,11 +105,8 @@ mod tests {
     #[test]
     fn come_out_as_the_paper_says() {
         for (given, answers) in EXAMPLES {
-            let shown = |text: Vec<u8>| String::from_utf8(text).unwrap();
-            assert_eq!(
-                answers_to(&text_of(given)).map(shown),
-                Some(shown(text_of(answers)))
-            );
+            let came = String::from_utf8(answers_to(&text_of(given)).lines).unwrap();
+            assert_eq!(came.into_bytes(), text_of(answers), "{given}");
         }
     }
 }

@@ -3,18 +3,21 @@
 
 pub mod call;
 pub mod card;
+pub mod card_program;
 pub mod cases;
-pub mod chance;
+pub mod claim;
+pub mod coverage;
 pub mod damage;
 pub mod examples;
 pub mod ledger;
 pub mod model;
 pub mod natural;
 pub mod panel;
+pub mod parts;
 pub mod process;
 pub mod replay;
+pub mod rng;
+pub mod search;
 pub mod session;
-pub mod shown;
 pub mod tally;
 pub mod text;
-pub mod walk;

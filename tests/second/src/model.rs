@@ -1,19 +1,24 @@
-//! The curve and what is done with it: document 01's operations in ordinary 64-bit arithmetic.
+//! The curve and what is done with it: document 01's operations in ordinary 64-bit arithmetic. The
+//! definitions keep to the paper's words, since this is what the proved code is compared with.
 
-/// The farthest that a side may lie from zero, in steps.
-pub const FARTHEST: i64 = 16_777_216;
-pub const MOST_DEGREE: usize = 8;
-pub const MOST_DEN: i64 = 65_536;
+/// The largest side, in steps of 1/1,024 ohm; the least is its negative.
+pub const MAX_SIDE: i64 = 16_777_216;
+pub const MAX_DEGREE: usize = 8;
+/// The places of a curve's record: one for each control point of the highest degree.
+pub const PLACES: usize = MAX_DEGREE + 1;
+pub const MAX_DEN: i64 = 65_536;
 
 /// Resistance low, resistance high, reactance low, reactance high.
 pub type Rectangle = [i64; 4];
 
+/// A degree and its control points; the places past the degree are zero.
 #[derive(Clone, Copy, PartialEq, Debug)]
 pub struct Curve {
     pub degree: usize,
-    pub places: [Rectangle; MOST_DEGREE + 1],
+    pub points: [Rectangle; PLACES],
 }
 
+/// The fraction num/den at which a curve is evaluated or subdivided.
 #[derive(Clone, Copy, PartialEq, Debug)]
 pub struct Parameter {
     pub num: i64,
@@ -38,100 +43,99 @@ pub fn refuse_if(condition: bool, number: i64, place: usize) -> Result<(), Refus
 impl Curve {
     pub const ZERO: Curve = Curve {
         degree: 0,
-        places: [[0; 4]; MOST_DEGREE + 1],
+        points: [[0; 4]; PLACES],
     };
 
-    pub fn new(rectangles: &[Rectangle]) -> Curve {
+    /// The curve with these control points.
+    pub fn new(points: &[Rectangle]) -> Curve {
         let mut curve = Curve::ZERO;
-        curve.degree = rectangles.len() - 1;
-        curve.places[..rectangles.len()].copy_from_slice(rectangles);
+        curve.degree = points.len() - 1;
+        curve.points[..points.len()].copy_from_slice(points);
         curve
     }
 
-    /// Rectangles 0 to n.
-    pub fn rectangles(&self) -> &[Rectangle] {
-        &self.places[..=self.degree]
+    /// Control points 0 to n.
+    pub fn control_points(&self) -> &[Rectangle] {
+        &self.points[..=self.degree]
     }
 
     /// Refusals 1 to 3: 2 over all rectangles, then 3 over all.
-    pub fn test(&self) -> Result<(), Refusal> {
-        refuse_if(self.degree < 1 || self.degree > MOST_DEGREE, 1, 0)?;
-        for (k, rectangle) in self.rectangles().iter().enumerate() {
+    pub fn check(&self) -> Result<(), Refusal> {
+        refuse_if(self.degree < 1 || self.degree > MAX_DEGREE, 1, 0)?;
+        for (k, rectangle) in self.control_points().iter().enumerate() {
             refuse_if(out_of_range(rectangle), 2, k)?;
         }
-        for (k, rectangle) in self.rectangles().iter().enumerate() {
+        for (k, rectangle) in self.control_points().iter().enumerate() {
             refuse_if(low_above_high(rectangle), 3, k)?;
         }
         Ok(())
     }
 
-    pub fn reading(&self, t: Parameter) -> Result<Rectangle, Refusal> {
-        self.test()?;
-        t.test()?;
-        let n = self.degree;
-        let mut row = self.places;
-        for stage in 1..=n {
-            for k in 0..=n - stage {
-                row[k] = affine(t, &row[k], &row[k + 1]);
-            }
+    /// De Casteljau's table: stage 0 is the control points, and each stage has the affine maps of the
+    /// neighbours in the stage before.
+    fn de_casteljau(&self, t: Parameter) -> Result<Vec<Vec<Rectangle>>, Refusal> {
+        self.check()?;
+        t.check()?;
+        let mut table = vec![self.control_points().to_vec()];
+        for stage in 0..self.degree {
+            let neighbours = table[stage].windows(2);
+            table.push(
+                neighbours
+                    .map(|pair| affine(t, &pair[0], &pair[1]))
+                    .collect(),
+            );
         }
-        Ok(row[0])
+        Ok(table)
     }
 
-    /// The left piece and the right piece.
-    pub fn cut(&self, t: Parameter) -> Result<(Curve, Curve), Refusal> {
-        self.test()?;
-        t.test()?;
-        let n = self.degree;
-        let mut table = [self.places; MOST_DEGREE + 1];
-        for stage in 1..=n {
-            for k in 0..=n - stage {
-                table[stage][k] = affine(t, &table[stage - 1][k], &table[stage - 1][k + 1]);
-            }
-        }
-        let (mut left, mut right) = (Curve::ZERO, Curve::ZERO);
-        (left.degree, right.degree) = (n, n);
-        for stage in 0..=n {
-            left.places[stage] = table[stage][0];
-            right.places[n - stage] = table[stage][n - stage];
-        }
-        Ok((left, right))
+    /// The load at a parameter (the paper's reading): what the last stage has left.
+    pub fn evaluate(&self, t: Parameter) -> Result<Rectangle, Refusal> {
+        let table = self.de_casteljau(t)?;
+        Ok(table[self.degree][0])
     }
 
-    pub fn raised(&self) -> Result<Curve, Refusal> {
-        self.test()?;
-        refuse_if(self.degree == MOST_DEGREE, 6, 0)?;
+    /// The left piece and the right piece (the paper's cut): the first rectangle of each stage, and the
+    /// last of each stage from the last stage back.
+    pub fn subdivide(&self, t: Parameter) -> Result<(Curve, Curve), Refusal> {
+        let table = self.de_casteljau(t)?;
+        let left: Vec<Rectangle> = table.iter().map(|stage| stage[0]).collect();
+        let right: Vec<Rectangle> = table
+            .iter()
+            .rev()
+            .map(|stage| stage[stage.len() - 1])
+            .collect();
+        Ok((Curve::new(&left), Curve::new(&right)))
+    }
+
+    /// The same curve by control points of one degree more (the paper's raising).
+    pub fn elevate(&self) -> Result<Curve, Refusal> {
+        self.check()?;
+        refuse_if(self.degree == MAX_DEGREE, 6, 0)?;
         let n = self.degree;
-        let mut raised = Curve::ZERO;
-        raised.degree = n + 1;
+        let mut elevated = Curve::ZERO;
+        elevated.degree = n + 1;
         for k in 0..=n + 1 {
-            let before = if k == 0 { [0; 4] } else { self.places[k - 1] };
-            let here = if k == n + 1 { [0; 4] } else { self.places[k] };
-            raised.places[k] = weighted(k as i64, &before, (n + 1 - k) as i64, &here);
+            let before = if k == 0 { [0; 4] } else { self.points[k - 1] };
+            let here = if k == n + 1 { [0; 4] } else { self.points[k] };
+            elevated.points[k] = weighted(k as i64, &before, (n + 1 - k) as i64, &here);
         }
-        Ok(raised)
+        Ok(elevated)
     }
 
-    pub fn span(&self) -> Result<Rectangle, Refusal> {
-        self.test()?;
-        let mut span = self.places[0];
-        for r in self.rectangles() {
-            let (low, high) = (i64::min, i64::max);
-            span = [
-                low(span[0], r[0]),
-                high(span[1], r[1]),
-                low(span[2], r[2]),
-                high(span[3], r[3]),
-            ];
-        }
-        Ok(span)
+    /// The least rectangle that holds all control points (the paper's span).
+    pub fn bounds(&self) -> Result<Rectangle, Refusal> {
+        self.check()?;
+        let least = |side: usize| self.control_points().iter().map(move |r| r[side]).min();
+        let greatest = |side: usize| self.control_points().iter().map(move |r| r[side]).max();
+        let sides = [least(0), greatest(1), least(2), greatest(3)];
+        Ok(sides.map(|side| side.expect("a control point")))
     }
 }
 
 impl Parameter {
     /// Refusals 4 and 5.
-    pub fn test(&self) -> Result<(), Refusal> {
-        refuse_if(self.den < 1 || self.den > MOST_DEN, 4, 0)?;
+    pub fn check(&self) -> Result<(), Refusal> {
+        refuse_if(self.den < 1 || self.den > MAX_DEN, 4, 0)?;
         refuse_if(self.num > self.den, 5, 0)
     }
 }
@@ -139,7 +143,7 @@ impl Parameter {
 pub fn out_of_range(rectangle: &Rectangle) -> bool {
     rectangle
         .iter()
-        .any(|side| *side < -FARTHEST || *side > FARTHEST)
+        .any(|side| *side < -MAX_SIDE || *side > MAX_SIDE)
 }
 
 pub fn low_above_high(rectangle: &Rectangle) -> bool {
@@ -169,7 +173,11 @@ mod tests {
     }
 
     fn resistances(curve: &Curve) -> Vec<[i64; 2]> {
-        curve.rectangles().iter().map(|r| [r[0], r[1]]).collect()
+        curve
+            .control_points()
+            .iter()
+            .map(|r| [r[0], r[1]])
+            .collect()
     }
 
     fn at(num: i64, den: i64) -> Parameter {
@@ -181,45 +189,45 @@ mod tests {
     }
 
     #[test]
-    fn reads_in_rounded_stages() {
-        assert_eq!(values(&[1, 0, 3]).reading(at(1, 2)), Ok([0, 2, 0, 0]));
-        assert_eq!(values(&[1, 0, 3]).reading(at(0, 1)), Ok([1, 1, 0, 0]));
-        assert_eq!(values(&[1, 0, 3]).reading(at(7, 7)), Ok([3, 3, 0, 0]));
+    fn evaluates_in_rounded_stages() {
+        assert_eq!(values(&[1, 0, 3]).evaluate(at(1, 2)), Ok([0, 2, 0, 0]));
+        assert_eq!(values(&[1, 0, 3]).evaluate(at(0, 1)), Ok([1, 1, 0, 0]));
+        assert_eq!(values(&[1, 0, 3]).evaluate(at(7, 7)), Ok([3, 3, 0, 0]));
         let card = Curve::new(&[[0, 1, -3, -3], [1, 3, 0, 2]]);
-        assert_eq!(card.reading(at(1, 2)), Ok([0, 2, -2, 0]));
-        assert_eq!(card.reading(at(2, 4)), Ok([0, 2, -2, 0]));
-        assert_eq!(card.span(), Ok([0, 3, -3, 2]));
+        assert_eq!(card.evaluate(at(1, 2)), Ok([0, 2, -2, 0]));
+        assert_eq!(card.evaluate(at(2, 4)), Ok([0, 2, -2, 0]));
+        assert_eq!(card.bounds(), Ok([0, 3, -3, 2]));
     }
 
     #[test]
-    fn cuts_into_the_two_edges_of_the_table() {
-        let (left, right) = values(&[1, 0, 3]).cut(at(1, 2)).unwrap();
+    fn subdivides_into_the_two_edges_of_the_table() {
+        let (left, right) = values(&[1, 0, 3]).subdivide(at(1, 2)).unwrap();
         assert_eq!(resistances(&left), [[1, 1], [0, 1], [0, 2]]);
         assert_eq!(resistances(&right), [[0, 2], [1, 2], [3, 3]]);
     }
 
     #[test]
-    fn raises_rounding_once() {
+    fn elevates_rounding_once() {
         assert_eq!(
-            resistances(&values(&[0, 1]).raised().unwrap()),
+            resistances(&values(&[0, 1]).elevate().unwrap()),
             [[0, 0], [0, 1], [1, 1]]
         );
         assert_eq!(
-            resistances(&values(&[0, 0, -1]).raised().unwrap())[2],
+            resistances(&values(&[0, 0, -1]).elevate().unwrap())[2],
             [-1, 0]
         );
-        assert_eq!(number(values(&[0; 9]).raised()), 6);
+        assert_eq!(number(values(&[0; 9]).elevate()), 6);
     }
 
     #[test]
     fn refuses_in_the_order_of_the_paper() {
-        assert_eq!(number(values(&[16_777_216, 0]).span()), 0);
-        assert_eq!(number(values(&[16_777_217, 0]).span()), 2);
-        assert_eq!(number(values(&[-16_777_217, 0]).span()), 2);
-        assert_eq!(number(Curve::ZERO.reading(at(1, 0))), 1);
-        let both = Curve::new(&[[1, 0, 0, 0], [0, 0, 0, FARTHEST + 1]]);
+        assert_eq!(number(values(&[16_777_216, 0]).bounds()), 0);
+        assert_eq!(number(values(&[16_777_217, 0]).bounds()), 2);
+        assert_eq!(number(values(&[-16_777_217, 0]).bounds()), 2);
+        assert_eq!(number(Curve::ZERO.evaluate(at(1, 0))), 1);
+        let both = Curve::new(&[[1, 0, 0, 0], [0, 0, 0, MAX_SIDE + 1]]);
         assert_eq!(
-            both.reading(at(1, 0)),
+            both.evaluate(at(1, 0)),
             Err(Refusal {
                 number: 2,
                 place: 1
@@ -227,7 +235,7 @@ mod tests {
         );
         let crossed = Curve::new(&[[0, 0, 0, 0], [0, 0, 0, 0], [0, 0, 1, 0]]);
         assert_eq!(
-            crossed.cut(at(1, 0)),
+            crossed.subdivide(at(1, 0)),
             Err(Refusal {
                 number: 3,
                 place: 2
@@ -246,7 +254,7 @@ mod tests {
             (8, 7, 5),
         ];
         for (num, den, expected) in refused {
-            assert_eq!(number(line.reading(at(num, den))), expected, "{num}/{den}");
+            assert_eq!(number(line.evaluate(at(num, den))), expected, "{num}/{den}");
         }
     }
 }

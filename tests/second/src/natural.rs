@@ -1,4 +1,4 @@
-//! Whole numbers of any size: as much of them as the book and the Bernstein sums need.
+//! Integer numbers of any size: as much of them as the ledger and the Bernstein sums need.
 
 use std::cmp::Ordering;
 
@@ -88,23 +88,23 @@ impl PartialOrd for Natural {
 
 /// A whole number of either sign, as what is added less what is taken away.
 #[derive(Clone, Debug)]
-pub struct Whole {
+pub struct Integer {
     added: Natural,
     taken: Natural,
 }
 
-impl Whole {
-    pub const fn zero() -> Whole {
-        Whole {
+impl Integer {
+    pub const fn zero() -> Integer {
+        Integer {
             added: Natural(Vec::new()),
             taken: Natural(Vec::new()),
         }
     }
 
     /// A small number times a natural one.
-    pub fn product(factor: i64, natural: &Natural) -> Whole {
+    pub fn product(factor: i64, natural: &Natural) -> Integer {
         let size = Natural::from(factor.unsigned_abs()).times(natural);
-        let mut whole = Whole::zero();
+        let mut whole = Integer::zero();
         if factor < 0 {
             whole.taken = size;
         } else {
@@ -113,14 +113,14 @@ impl Whole {
         whole
     }
 
-    pub fn plus(&self, other: &Whole) -> Whole {
-        Whole {
+    pub fn plus(&self, other: &Integer) -> Integer {
+        Integer {
             added: self.added.plus(&other.added),
             taken: self.taken.plus(&other.taken),
         }
     }
 
-    pub fn at_most(&self, other: &Whole) -> bool {
+    pub fn at_most(&self, other: &Integer) -> bool {
         self.added.plus(&other.taken) <= other.added.plus(&self.taken)
     }
 }
@@ -128,7 +128,7 @@ impl Whole {
 #[cfg(test)]
 mod tests {
     use super::*;
-    use crate::chance::Chance;
+    use crate::rng::Rng;
 
     fn natural(number: u128) -> Natural {
         let high = Natural::from((number >> 64) as u64);
@@ -138,9 +138,9 @@ mod tests {
 
     #[test]
     fn agrees_with_128_bits() {
-        let mut chance = Chance::new(1);
+        let mut rng = Rng::new(1);
         for _ in 0..20_000 {
-            let mut below_2_to_63 = || u128::from(chance.draw() >> (1 + chance.below(63)));
+            let mut below_2_to_63 = || u128::from(rng.draw() >> (1 + rng.below(63)));
             let (a, b, c) = (below_2_to_63(), below_2_to_63(), below_2_to_63());
             let product = a * b;
             assert_eq!(natural(a).times(&natural(b)), natural(product));
@@ -168,9 +168,9 @@ mod tests {
         for a in -3..=3 {
             for b in -3..=3 {
                 let one = Natural::from(1);
-                let (left, right) = (Whole::product(a, &one), Whole::product(b, &one));
+                let (left, right) = (Integer::product(a, &one), Integer::product(b, &one));
                 assert_eq!(left.at_most(&right), a <= b);
-                assert!(left.plus(&right).at_most(&Whole::product(a + b, &one)));
+                assert!(left.plus(&right).at_most(&Integer::product(a + b, &one)));
             }
         }
     }

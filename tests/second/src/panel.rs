@@ -2,14 +2,16 @@
 
 use crate::card::curve_of;
 use crate::cases::parameter;
-use crate::chance::Chance;
+use crate::coverage::count_panel;
 use crate::damage::card;
 use crate::model::{refuse_if, Parameter, Refusal};
-use crate::tally::{shown, Tally};
+use crate::rng::Rng;
+use crate::tally::{visible, Tally};
 
 /// The panel call: a card's bytes, num, den and the buffer.
 pub type PanelCall = fn(&[u8], u32, u32, &mut [u8]) -> u32;
 
+/// The bytes of the answer: four sides of four bytes.
 const NEEDED: usize = 16;
 
 /// The panel call as document 01 has it.
@@ -22,7 +24,7 @@ pub fn answer(card: &[u8], num: u32, den: u32, buffer: &mut [u8]) -> u32 {
 }
 
 fn read_into(card: &[u8], t: Parameter, buffer: &mut [u8]) -> Result<(), Refusal> {
-    let sides = curve_of(card)?.reading(t)?;
+    let sides = curve_of(card)?.evaluate(t)?;
     refuse_if(buffer.len() < NEEDED, 12, NEEDED)?;
     for (side, bytes) in sides.iter().zip(buffer.chunks_mut(4)) {
         bytes.copy_from_slice(&(*side as i32).to_le_bytes());
@@ -30,32 +32,41 @@ fn read_into(card: &[u8], t: Parameter, buffer: &mut [u8]) -> Result<(), Refusal
     Ok(())
 }
 
-/// The longest buffer lent, and what lies behind it, where nothing may be written either.
-const LONGEST: u64 = 20;
+/// The longest buffer lent, and the bytes behind it, where nothing may be written either.
+const LONGEST: usize = 20;
 const BEHIND: usize = 12;
 
-pub const NUMBERS: &str = "numbers from the panel call";
+pub const ROW: &str = "panel call";
 
-/// Compares one call.
-pub fn compare(call: PanelCall, chance: &mut Chance, tally: &mut Tally) -> Result<(), String> {
-    let card = card(chance);
-    let t = parameter(chance);
+/// Compares one call: the number, every byte of the buffer, and the bytes behind it.
+pub fn compare(call: PanelCall, rng: &mut Rng, tally: &mut Tally) -> Result<(), String> {
+    let card = card(rng);
+    let t = parameter(rng);
     let (num, den) = (t.num as u32, t.den as u32);
-    let shortest = if chance.one_in(2) { 0 } else { NEEDED as u64 };
-    let length = (shortest + chance.below(LONGEST + 1 - shortest)) as usize;
-    let filled: [u8; LONGEST as usize + BEHIND] = std::array::from_fn(|_| chance.draw() as u8);
+    let length = buffer_length(rng);
+    let filled: [u8; LONGEST + BEHIND] = std::array::from_fn(|_| rng.draw() as u8);
     let (mut expected, mut came) = (filled, filled);
     let expected_number = answer(&card, num, den, &mut expected[..length]);
     let number = call(&card, num, den, &mut came[..length]);
-    tally.came(NUMBERS, expected_number.into());
+    count_panel(&card, t, length, expected_number.into(), tally);
     let agrees = number == expected_number && came == expected;
-    tally.count("panel call, cards", agrees, || {
-        let given = format!("card of {} bytes\n{}{num}/{den}", card.len(), shown(&card));
+    tally.compare(ROW, agrees, || {
+        let given = format!(
+            "the answer differs\ncard of {} bytes\n{}{num}/{den}",
+            card.len(),
+            visible(&card)
+        );
         let lent = format!("buffer of {length} bytes, filled\n{filled:?}");
         format!(
             "{given}, {lent}\nexpected {expected_number}\n{expected:?}\ncame {number}\n{came:?}"
         )
     })
+}
+
+/// A length from 0 to the longest; every other one is drawn from those that the answer fits in.
+fn buffer_length(rng: &mut Rng) -> usize {
+    let shortest = rng.pick(&[0, NEEDED]);
+    shortest + rng.below((LONGEST + 1 - shortest) as u64) as usize
 }
 
 #[cfg(test)]
@@ -83,13 +94,11 @@ mod tests {
 
     #[test]
     fn agrees_with_itself_and_finds_a_wrong_byte() {
-        let (mut chance, mut tally) = (Chance::new(6), Tally::default());
+        let (mut rng, mut tally) = (Rng::new(6), Tally::default());
         for _ in 0..20_000 {
-            compare(answer, &mut chance, &mut tally).unwrap();
+            compare(answer, &mut rng, &mut tally).unwrap();
         }
-        tally
-            .all_came(NUMBERS, &[0, 1, 2, 3, 4, 5, 10, 11, 12])
-            .unwrap();
+        assert_eq!(tally.agreed(Some(ROW)), [20_000, 20_000]);
         let wrong: PanelCall = |card, num, den, buffer| {
             let number = answer(card, num, den, buffer);
             if let (5, Some(last)) = (number, buffer.last_mut()) {
@@ -97,6 +106,6 @@ mod tests {
             }
             number
         };
-        assert!((0..1_000).any(|_| compare(wrong, &mut chance, &mut tally).is_err()));
+        assert!((0..1_000).any(|_| compare(wrong, &mut rng, &mut tally).is_err()));
     }
 }

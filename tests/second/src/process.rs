@@ -10,6 +10,13 @@ pub struct Written {
     pub ended_well: bool,
 }
 
+impl Written {
+    /// Whether the program ended well and wrote just these bytes.
+    pub fn is(&self, expected: &[u8]) -> bool {
+        self.ended_well && self.bytes == expected
+    }
+}
+
 pub fn run(program: &Path, input: &[u8]) -> Result<Written, String> {
     let failed = |error: std::io::Error| format!("{}: {error}", program.display());
     let mut child = Command::new(program)
@@ -28,4 +35,17 @@ pub fn run(program: &Path, input: &[u8]) -> Result<Written, String> {
     read.map_err(failed)?;
     let ended_well = child.wait().map_err(failed)?.success();
     Ok(Written { bytes, ended_well })
+}
+
+#[cfg(test)]
+mod tests {
+    use super::*;
+
+    #[test]
+    fn hands_over_and_back() {
+        let input = vec![b'x'; 1_000_000];
+        assert!(run(Path::new("/bin/cat"), &input).unwrap().is(&input));
+        assert!(!run(Path::new("/bin/false"), b"").unwrap().is(b""));
+        assert!(run(Path::new("/no/such/program"), b"").is_err());
+    }
 }

@@ -3,24 +3,27 @@
 use crate::call::{Call, Kept};
 use crate::card::{card_length, card_of, curve_of, degree_of, line_of, number_of, numbers_in};
 use crate::card::{COLUMN, FIRST_LINE, LINE};
-use crate::cases::{Case, MOST};
+use crate::cases::{Case, MAX_WORD};
 use crate::model::{Curve, Parameter, Refusal};
+use crate::search::Search;
 use crate::session::Session;
-use crate::walk::Walk;
+
+/// The first column of the line that ends a run at a bad line.
+const STOPPED: i64 = 99;
 
 /// The columns of a call line.
 fn columns(call: &Call) -> Vec<i64> {
     match call {
-        Call::Reading(t) => vec![1, t.num, t.den],
-        Call::Cut(t, Kept::Left) => vec![2, t.num, t.den],
-        Call::Cut(t, Kept::Right) => vec![3, t.num, t.den],
-        Call::Raising => vec![4],
-        Call::Span => vec![5],
-        Call::Walk(Walk {
-            area,
+        Call::Evaluate(t) => vec![1, t.num, t.den],
+        Call::Subdivide(t, Kept::Left) => vec![2, t.num, t.den],
+        Call::Subdivide(t, Kept::Right) => vec![3, t.num, t.den],
+        Call::Elevate => vec![4],
+        Call::Bounds => vec![5],
+        Call::Search(Search {
+            limits,
             depth,
             budget,
-        }) => [&[6], &area[..], &[*depth, *budget]].concat(),
+        }) => [&[6], &limits[..], &[*depth, *budget]].concat(),
     }
 }
 
@@ -34,23 +37,41 @@ pub fn text_of(case: &Case) -> Vec<u8> {
     text
 }
 
-/// What `replay` writes on any bytes. None: an input that ends inside a card after a whole line.
-pub fn answers_to(text: &[u8]) -> Option<Vec<u8>> {
-    let mut written = Vec::new();
+/// Where a run of `replay` ends.
+#[derive(Clone, Copy, PartialEq, Debug)]
+pub enum Ending {
+    AfterText,
+    AtBadLine,
+    /// After a whole line of a card that is not complete. The format leaves open what follows.
+    InsideCard,
+}
+
+/// What `replay` writes on some bytes.
+#[derive(PartialEq, Debug)]
+pub struct Answers {
+    pub lines: Vec<u8>,
+    pub ending: Ending,
+}
+
+pub fn answers_to(text: &[u8]) -> Answers {
+    let mut lines = Vec::new();
+    let mut ending = Ending::AfterText;
     let mut offset = 0;
     while offset < text.len() {
         if ends_inside_a_card(&text[offset..]) {
-            return None;
+            ending = Ending::InsideCard;
+            break;
         }
-        match case_at(text, offset, &mut written) {
+        match case_at(text, offset, &mut lines) {
             Ok(end) => offset = end,
             Err(bad) => {
-                written.extend(line_of(&[99, bad as i64]));
+                lines.extend(line_of(&[STOPPED, bad as i64]));
+                ending = Ending::AtBadLine;
                 break;
             }
         }
     }
-    Some(written)
+    Answers { lines, ending }
 }
 
 /// Writes the answers to the case at an offset. Gives where the case ends, or where a bad line begins.
@@ -86,12 +107,12 @@ fn call_at(rest: &[u8]) -> Option<(usize, Option<Call>)> {
     let kind = number_of(rest.get(..COLUMN)?)?;
     let (count, call) = match kind {
         0 => (numbers_in::<1>(rest)?.len(), None),
-        1 => with_parameter(rest, Call::Reading)?,
-        2 => with_parameter(rest, |t| Call::Cut(t, Kept::Left))?,
-        3 => with_parameter(rest, |t| Call::Cut(t, Kept::Right))?,
-        4 => (numbers_in::<1>(rest)?.len(), Some(Call::Raising)),
-        5 => (numbers_in::<1>(rest)?.len(), Some(Call::Span)),
-        6 => walk_in(rest)?,
+        1 => with_parameter(rest, Call::Evaluate)?,
+        2 => with_parameter(rest, |t| Call::Subdivide(t, Kept::Left))?,
+        3 => with_parameter(rest, |t| Call::Subdivide(t, Kept::Right))?,
+        4 => (numbers_in::<1>(rest)?.len(), Some(Call::Elevate)),
+        5 => (numbers_in::<1>(rest)?.len(), Some(Call::Bounds)),
+        6 => search_in(rest)?,
         _ => return None,
     };
     Some((COLUMN * count + 1, call))
@@ -99,18 +120,20 @@ fn call_at(rest: &[u8]) -> Option<(usize, Option<Call>)> {
 
 fn with_parameter(rest: &[u8], call: fn(Parameter) -> Call) -> Option<(usize, Option<Call>)> {
     let [_, num, den] = numbers_in(rest)?;
-    let in_range = [num, den].iter().all(|number| (0..=MOST).contains(number));
+    let in_range = [num, den]
+        .iter()
+        .all(|number| (0..=MAX_WORD).contains(number));
     in_range.then(|| (3, Some(call(Parameter { num, den }))))
 }
 
-fn walk_in(rest: &[u8]) -> Option<(usize, Option<Call>)> {
-    let [_, area @ .., depth, budget] = numbers_in::<7>(rest)?;
+fn search_in(rest: &[u8]) -> Option<(usize, Option<Call>)> {
+    let [_, limits @ .., depth, budget] = numbers_in::<7>(rest)?;
     let in_range = [depth, budget]
         .iter()
-        .all(|number| (0..=MOST).contains(number));
-    let sides_in_range = area.iter().all(|side| i32::try_from(*side).is_ok());
-    let call = Call::Walk(Walk {
-        area,
+        .all(|number| (0..=MAX_WORD).contains(number));
+    let sides_in_range = limits.iter().all(|side| i32::try_from(*side).is_ok());
+    let call = Call::Search(Search {
+        limits,
         depth,
         budget,
     });
@@ -121,25 +144,37 @@ fn walk_in(rest: &[u8]) -> Option<(usize, Option<Call>)> {
 mod tests {
     use super::*;
     use crate::cases::case;
-    use crate::chance::Chance;
+    use crate::rng::Rng;
 
     fn text(lines: &[&[i64]]) -> Vec<u8> {
         lines.iter().flat_map(|line| line_of(line)).collect()
+    }
+
+    fn whole(lines: Vec<u8>) -> Answers {
+        let ending = Ending::AfterText;
+        Answers { lines, ending }
+    }
+
+    /// The answers up to a bad line at an offset.
+    fn stopped(mut lines: Vec<u8>, offset: i64) -> Answers {
+        lines.extend(line_of(&[STOPPED, offset]));
+        let ending = Ending::AtBadLine;
+        Answers { lines, ending }
     }
 
     const CARD: [&[i64]; 3] = [&[1], &[0, 1, -3, -3], &[1, 3, 0, 2]];
 
     #[test]
     fn reads_its_own_text() {
-        let mut chance = Chance::new(4);
+        let mut rng = Rng::new(4);
         for degree in (1..=8).cycle().take(800) {
-            let drawn = case(&mut chance, degree);
-            let (mut session, answer) = Session::open(drawn.card.test().map(|_| drawn.card));
+            let drawn = case(&mut rng, degree);
+            let (mut session, answer) = Session::open(drawn.card.check().map(|_| drawn.card));
             let mut expected = line_of(&answer);
             for call in &drawn.calls {
                 expected.extend(line_of(&session.answer(call).0));
             }
-            assert_eq!(answers_to(&text_of(&drawn)), Some(expected));
+            assert_eq!(answers_to(&text_of(&drawn)), whole(expected));
         }
     }
 
@@ -147,8 +182,8 @@ mod tests {
     fn ends_the_run_at_a_bad_line() {
         let card = text(&CARD);
         let sound = line_of(&[0, 1]);
-        let after = |line: &[u8]| answers_to(&[&card, line].concat()).unwrap();
-        assert_eq!(after(b""), sound);
+        let after = |line: &[u8]| answers_to(&[&card, line].concat());
+        assert_eq!(after(b""), whole(sound.clone()));
         let bad: [&[u8]; 8] = [
             &line_of(&[7]),
             &line_of(&[1, -1, 2]),
@@ -160,23 +195,19 @@ mod tests {
             b"        04\n",
         ];
         for line in bad {
-            assert_eq!(
-                after(line),
-                [sound.clone(), line_of(&[99, 93])].concat(),
-                "{line:?}"
-            );
+            assert_eq!(after(line), stopped(sound.clone(), 93), "{line:?}");
         }
     }
 
     #[test]
     fn ends_the_run_at_a_bad_card() {
-        assert_eq!(answers_to(b""), Some(vec![]));
-        assert_eq!(answers_to(b"         1"), Some(line_of(&[99, 0])));
-        assert_eq!(answers_to(&line_of(&[9])), Some(line_of(&[99, 0])));
-        assert_eq!(answers_to(&text(&CARD)[..90]), Some(line_of(&[99, 0])));
-        assert_eq!(answers_to(&text(&CARD[..2])), None);
+        assert_eq!(answers_to(b""), whole(vec![]));
+        assert_eq!(answers_to(b"         1"), stopped(vec![], 0));
+        assert_eq!(answers_to(&line_of(&[9])), stopped(vec![], 0));
+        assert_eq!(answers_to(&text(&CARD)[..90]), stopped(vec![], 0));
+        assert_eq!(answers_to(&text(&CARD[..2])).ending, Ending::InsideCard);
         let second = [text(&CARD), line_of(&[0]), b"x".to_vec()].concat();
-        assert_eq!(answers_to(&second), Some(text(&[&[0, 1], &[99, 104]])));
+        assert_eq!(answers_to(&second), stopped(line_of(&[0, 1]), 104));
     }
 
     #[test]
@@ -192,7 +223,7 @@ mod tests {
         ];
         assert_eq!(
             answers_to(&text(&given)),
-            Some(text(&[&[3, 1], &[1, 0], &[1, 0], &[1, 0]]))
+            whole(text(&[&[3, 1], &[1, 0], &[1, 0], &[1, 0]]))
         );
     }
 }

@@ -7,6 +7,7 @@ use native.Mathlib.Omega.{arith}
 use borrow.Author.Needs.{needs}
 use lib.ListN.{set}
 use Rattle.curve.specs.declared.Rect.{Rect}
+use Rattle.curve.specs.Limits.{maxDegree}
 use Rattle.curve.specs.Curve.{pointsOf}
 use Rattle.curve.proofs.Places.{points-first, points-next}
 use Rattle.bench_calls.specs.Slices.{rectFrom, curveFrom}
@@ -14,10 +15,10 @@ use Rattle.bench_calls.proofs.curve_from.Statement.{statement}
 use Rattle.bench_calls.proofs.curve_from.Tie as tie
 
 abbrev Inv-loop : tie.InvT-loop
-Inv-loop sides points₀ k₀ points k = (k ≤ 8) × (points ≡ pointsOf k (rectFrom sides))
+Inv-loop sides points₀ k₀ points k = (k ≤ maxDegree) × (points ≡ pointsOf k (rectFrom sides))
 
 abbrev μ-loop : tie.MeasureT-loop
-μ-loop sides points₀ k₀ points k = 8 - k
+μ-loop sides points₀ k₀ points k = maxDegree - k
 
 rect-from-requires : tie.Need-rect-from-requires Inv-loop μ-loop
 rect-from-requires c κs = (omega arith, c .pre)
@@ -53,7 +54,7 @@ returns : tie.Need-returns Inv-loop μ-loop
 unfolding curveFrom
 returns c =
     let l = c .before .loop in
-    let done : l .k ≡ 8 = omega arith in
+    let done : l .k ≡ maxDegree = omega arith in
     rw (l .inv .1 ∙ ap (λ (k : ℕ). pointsOf k (rectFrom (c .before .before .before .args .sides .now))) done)
 
 pub curve-from-spec : {M : Type 1} → statement M

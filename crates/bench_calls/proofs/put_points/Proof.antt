@@ -8,19 +8,20 @@ use native.Mathlib.Omega.{arith}
 use lib.IntN.{ℤ}
 use lib.ListN.{length}
 use Rattle.curve.specs.declared.Rect.{Rect}
+use Rattle.curve.specs.Limits.{places}
 use Rattle.curve.specs.Curve.{point}
-use Rattle.bench_calls.specs.Slices.{withRect, withPoints}
+use Rattle.bench_calls.specs.Slices.{rectSides, withRect, withPoints}
 use Rattle.bench_calls.proofs.Stored.{points-length}
 use Rattle.bench_calls.proofs.put_points.Statement.{statement}
 use Rattle.bench_calls.proofs.put_points.Tie as tie
 
 abbrev Inv-loop : tie.InvT-loop
-Inv-loop out₀ at c k₀ out k = (k ≤ 9) × (out ≡ withPoints out₀ at (point c) k)
+Inv-loop out₀ at c k₀ out k = (k ≤ places) × (out ≡ withPoints out₀ at (point c) k)
 
 abbrev μ-loop : tie.MeasureT-loop
-μ-loop out₀ at c k₀ out k = 9 - k
+μ-loop out₀ at c k₀ out k = places - k
 
-stored-next : (out : List ℤ) (at : ℕ) (P : ℕ → Rect) (k : ℕ) → withRect (withPoints out at P k) (at + 4 * k) (P k) ≡ withPoints out at P (k + 1)
+stored-next : (out : List ℤ) (at : ℕ) (P : ℕ → Rect) (k : ℕ) → withRect (withPoints out at P k) (at + rectSides * k) (P k) ≡ withPoints out at P (k + 1)
 unfolding withPoints
 stored-next out at P k = rw (add-one k)
 
@@ -61,7 +62,7 @@ loop-again c =
     let a = l .before .args in (
       omega arith,
       c .before .put-rect .ensures
-          ∙ ap (λ (x : List ℤ). withRect x (a .at + 4 * l .loop .k) (point (a .t3) (l .loop .k))) (l .loop .inv .1)
+          ∙ ap (λ (x : List ℤ). withRect x (a .at + rectSides * l .loop .k) (point (a .t3) (l .loop .k))) (l .loop .inv .1)
           ∙ stored-next (a .out .now) (a .at) (point (a .t3)) (l .loop .k),
     )
 
@@ -72,7 +73,7 @@ returns : tie.Need-returns Inv-loop μ-loop
 returns c =
     let l = c .before .loop in
     let a = c .before .before .args in
-    let done : l .k ≡ 9 = omega arith in
+    let done : l .k ≡ places = omega arith in
     l .inv .1 ∙ ap (withPoints (a .out .now) (a .at) (point (a .t3))) done
 
 pub put-points-spec : {M : Type 1} → statement M

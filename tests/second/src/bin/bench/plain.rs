@@ -1,50 +1,87 @@
-//! The plain side: the second program's own reading and cut, on the same slices of sides.
+//! The plain side: what one would write by hand in Rust for the same slices and the same refusals. One
+//! table in place, sides of 32 bits, products of 64 bits, and one division for each side. Neither
+//! side works out the ohms: nothing here reads ours, so the compiler leaves them out.
 
-use second::model::{Curve, Parameter, Rectangle};
+use crate::{CURVE_SIDES, RECT_SIDES};
+use second::model::{MAX_DEN, MAX_SIDE, PLACES};
 
-/// The curve of degree 8 with these 36 sides.
-fn curve_of(sides: &[i32]) -> Curve {
-    let mut curve = Curve {
-        degree: 8,
-        ..Curve::ZERO
-    };
-    for (k, side) in sides.iter().enumerate() {
-        curve.places[k / 4][k % 4] = (*side).into();
+type Rect = [i32; RECT_SIDES];
+type Points = [Rect; PLACES];
+
+fn points_of(sides: &[i32]) -> Points {
+    let mut points = [[0; RECT_SIDES]; PLACES];
+    for (point, sides) in points.iter_mut().zip(sides.chunks_exact(RECT_SIDES)) {
+        point.copy_from_slice(sides);
     }
-    curve
+    points
 }
 
-/// Stores the sides of some rectangles.
-fn store(rectangles: &[Rectangle], out: &mut [i32]) {
-    for (place, side) in out.iter_mut().zip(rectangles.iter().flatten()) {
-        *place = *side as i32;
+/// The refusal's number: 2 over all rectangles, 3 over all, then 4 and 5. The degree is fixed.
+fn refusal(points: &Points, num: u32, den: u32) -> u32 {
+    let limits = -MAX_SIDE as i32..=MAX_SIDE as i32;
+    if !points.iter().flatten().all(|side| limits.contains(side)) {
+        return 2;
+    }
+    if points.iter().any(|r| r[0] > r[1] || r[2] > r[3]) {
+        return 3;
+    }
+    if den < 1 || i64::from(den) > MAX_DEN {
+        return 4;
+    }
+    if num > den {
+        return 5;
+    }
+    0
+}
+
+/// The affine map of two rectangles at num/den, rounded outward.
+fn affine(num: i64, den: i64, a: &Rect, b: &Rect) -> Rect {
+    let sum = |side: usize| (den - num) * i64::from(a[side]) + num * i64::from(b[side]);
+    let low = |side: usize| sum(side).div_euclid(den) as i32;
+    let high = |side: usize| -(-sum(side)).div_euclid(den) as i32;
+    [low(0), high(1), low(2), high(3)]
+}
+
+/// One stage of de Casteljau's table in place: each of the first rectangles becomes the map of itself
+/// and the next.
+fn stage(points: &mut [Rect], num: u32, den: u32) {
+    for k in 1..points.len() {
+        points[k - 1] = affine(num.into(), den.into(), &points[k - 1], &points[k]);
     }
 }
 
-fn parameter(num: u32, den: u32) -> Parameter {
-    Parameter {
-        num: num.into(),
-        den: den.into(),
+fn store(points: &[Rect], out: &mut [i32]) {
+    for (out, point) in out.chunks_exact_mut(RECT_SIDES).zip(points) {
+        out.copy_from_slice(point);
     }
 }
 
 pub fn evaluate(sides: &[i32], num: u32, den: u32, out: &mut [i32]) -> u32 {
-    match curve_of(sides).reading(parameter(num, den)) {
-        Ok(load) => {
-            store(&[load], out);
-            0
-        }
-        Err(refusal) => refusal.number as u32,
+    let mut points = points_of(sides);
+    let number = refusal(&points, num, den);
+    if number != 0 {
+        return number;
     }
+    for length in (2..=PLACES).rev() {
+        stage(&mut points[..length], num, den);
+    }
+    store(&points[..1], out);
+    0
 }
 
+/// The first rectangle of each stage is the left piece; what the stages leave in place is the right one.
 pub fn subdivide(sides: &[i32], num: u32, den: u32, out: &mut [i32]) -> u32 {
-    match curve_of(sides).cut(parameter(num, den)) {
-        Ok((left, right)) => {
-            store(left.rectangles(), &mut out[..36]);
-            store(right.rectangles(), &mut out[36..]);
-            0
-        }
-        Err(refusal) => refusal.number as u32,
+    let mut points = points_of(sides);
+    let number = refusal(&points, num, den);
+    if number != 0 {
+        return number;
     }
+    let mut left = points;
+    for length in (2..=PLACES).rev() {
+        stage(&mut points[..length], num, den);
+        left[PLACES + 1 - length] = points[0];
+    }
+    store(&left, &mut out[..CURVE_SIDES]);
+    store(&points, &mut out[CURVE_SIDES..]);
+    0
 }

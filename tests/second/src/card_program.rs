@@ -1,47 +1,44 @@
 //! The program `card`: what it must print for any bytes, and the comparison.
 
 use crate::card::{curve_of, line_of};
-use crate::chance::Chance;
+use crate::coverage::{count_card, ACCEPTED};
 use crate::damage;
 use crate::examples::{CARD, PRINTED};
 use crate::model::{Parameter, Refusal};
 use crate::process::run;
+use crate::rng::Rng;
 use crate::tally::{disagreement, Tally};
 use std::path::Path;
 
-const MOST_READ: usize = 4_096;
+/// The bytes that the program takes as the card.
+const MAX_READ: usize = 4_096;
 
-/// The lines printed: the span and the reading at 1/2, or the refusal.
+/// The lines printed: the bounds and the load at 1/2, or the refusal.
 fn printed(input: &[u8]) -> Vec<u8> {
-    let card = &input[..input.len().min(MOST_READ)];
+    let card = &input[..input.len().min(MAX_READ)];
     accepted(card).unwrap_or_else(|refusal| line_of(&[refusal.number, refusal.place]))
 }
 
 fn accepted(card: &[u8]) -> Result<Vec<u8>, Refusal> {
     let curve = curve_of(card)?;
-    let middle = curve.reading(Parameter { num: 1, den: 2 })?;
-    Ok([line_of(&curve.span()?), line_of(&middle)].concat())
+    let load = curve.evaluate(Parameter { num: 1, den: 2 })?;
+    Ok([line_of(&curve.bounds()?), line_of(&load)].concat())
 }
 
-pub const NUMBERS: &str = "numbers from card";
-
 /// Compares one run of the program on a card, sound or damaged.
-pub fn compare(program: &Path, chance: &mut Chance, tally: &mut Tally) -> Result<(), String> {
-    let card = damage::card(chance);
-    let number = accepted(&card).err().map_or(0, |refusal| refusal.number);
-    tally.came(NUMBERS, number);
+pub fn compare(program: &Path, rng: &mut Rng, tally: &mut Tally) -> Result<(), String> {
+    let card = damage::card(rng);
+    let number = accepted(&card)
+        .err()
+        .map_or(ACCEPTED, |refusal| refusal.number);
+    count_card(number, tally);
     compare_lines(program, &card, &printed(&card), "card, cards", tally)
 }
 
 /// Compares the run on document 01's card.
 pub fn compare_example(program: &Path, tally: &mut Tally) -> Result<(), String> {
-    compare_lines(
-        program,
-        CARD,
-        PRINTED,
-        "card, example of document 01",
-        tally,
-    )
+    let row = "card, example of document 01";
+    compare_lines(program, CARD, PRINTED, row, tally)
 }
 
 fn compare_lines(
@@ -51,9 +48,9 @@ fn compare_lines(
     row: &'static str,
     tally: &mut Tally,
 ) -> Result<(), String> {
-    let came = run(program, card)?.bytes;
-    tally.count(row, came == expected, || {
-        disagreement(card, expected, &came)
+    let came = run(program, card)?;
+    tally.compare(row, came.is(expected), || {
+        disagreement(card, expected, &came.bytes)
     })
 }
 

@@ -1,7 +1,13 @@
-//! The walk over a box by the paper's rules, with the pieces that are due on a list.
+//! The search for where a curve leaves a box (the paper's walk over a box), by the paper's rules, with
+//! the pieces that are due on a list.
 
 use crate::model::{low_above_high, out_of_range, refuse_if, Curve, Parameter, Rectangle, Refusal};
 
+const MAX_DEPTH: i64 = 12;
+const MAX_BUDGET: i64 = 8_191;
+const MIDDLE: Parameter = Parameter { num: 1, den: 2 };
+
+/// How a search ends. Depth and index name a piece.
 #[derive(Clone, Copy, PartialEq, Debug)]
 pub enum Verdict {
     Inside,
@@ -10,10 +16,10 @@ pub enum Verdict {
     Undecided { depth: i64, index: i64 },
 }
 
-/// What a walk is given beside the curve.
+/// What a search is given beside the curve: the box, the depth limit and the budget of pieces.
 #[derive(Clone, Copy, PartialEq, Debug)]
-pub struct Walk {
-    pub area: Rectangle,
+pub struct Search {
+    pub limits: Rectangle,
     pub depth: i64,
     pub budget: i64,
 }
@@ -24,13 +30,27 @@ struct Piece {
     index: i64,
 }
 
-impl Walk {
+impl Piece {
+    /// The two halves, the left one last, since the list is taken from its end.
+    fn halves(&self) -> Result<[Piece; 2], Refusal> {
+        let (left, right) = self.curve.subdivide(MIDDLE)?;
+        let half = |curve, index| Piece {
+            curve,
+            depth: self.depth + 1,
+            index,
+        };
+        Ok([half(right, 2 * self.index + 1), half(left, 2 * self.index)])
+    }
+}
+
+impl Search {
     /// The verdict and the number of pieces looked at.
     pub fn over(&self, curve: &Curve) -> Result<(Verdict, i64), Refusal> {
-        curve.test()?;
-        refuse_if(out_of_range(&self.area) || low_above_high(&self.area), 7, 0)?;
-        refuse_if(self.depth > 12, 8, 0)?;
-        refuse_if(self.budget < 1 || self.budget > 8_191, 9, 0)?;
+        curve.check()?;
+        let no_box = out_of_range(&self.limits) || low_above_high(&self.limits);
+        refuse_if(no_box, 7, 0)?;
+        refuse_if(self.depth > MAX_DEPTH, 8, 0)?;
+        refuse_if(self.budget < 1 || self.budget > MAX_BUDGET, 9, 0)?;
         self.all_pieces(Piece {
             curve: *curve,
             depth: 0,
@@ -42,38 +62,24 @@ impl Walk {
         let mut due = vec![whole];
         let mut count = 0;
         let mut noted = None;
-        while let Some(Piece {
-            curve,
-            depth,
-            index,
-        }) = due.pop()
-        {
+        while let Some(piece) = due.pop() {
             if count == self.budget {
                 return Ok((Verdict::Spent, count));
             }
             count += 1;
-            let span = curve.span()?;
-            if lies_in(&span, &self.area) {
+            let (depth, index) = (piece.depth, piece.index);
+            let bounds = piece.curve.bounds()?;
+            if lies_in(&bounds, &self.limits) {
                 continue;
             }
-            if have_no_common_point(&span, &self.area) {
+            if have_no_common_point(&bounds, &self.limits) {
                 return Ok((Verdict::Outside { depth, index }, count));
             }
-            if depth == self.depth {
+            if depth < self.depth {
+                due.extend(piece.halves()?);
+            } else {
                 noted = noted.or(Some(Verdict::Undecided { depth, index }));
-                continue;
             }
-            let (left, right) = curve.cut(Parameter { num: 1, den: 2 })?;
-            due.push(Piece {
-                curve: right,
-                depth: depth + 1,
-                index: 2 * index + 1,
-            });
-            due.push(Piece {
-                curve: left,
-                depth: depth + 1,
-                index: 2 * index,
-            });
         }
         Ok((noted.unwrap_or(Verdict::Inside), count))
     }
@@ -92,10 +98,10 @@ mod tests {
     use super::*;
 
     /// Resistance values 0, 4 and reactance values 0, 0.
-    fn walked(area: Rectangle, depth: i64, budget: i64) -> Result<(Verdict, i64), Refusal> {
+    fn searched(limits: Rectangle, depth: i64, budget: i64) -> Result<(Verdict, i64), Refusal> {
         let curve = Curve::new(&[[0; 4], [4, 4, 0, 0]]);
-        Walk {
-            area,
+        Search {
+            limits,
             depth,
             budget,
         }
@@ -106,32 +112,32 @@ mod tests {
     fn ends_as_the_examples_say() {
         let half = [0, 2, 0, 0];
         assert_eq!(
-            walked(half, 2, 5),
+            searched(half, 2, 5),
             Ok((Verdict::Outside { depth: 2, index: 3 }, 5))
         );
-        assert_eq!(walked(half, 2, 4), Ok((Verdict::Spent, 4)));
+        assert_eq!(searched(half, 2, 4), Ok((Verdict::Spent, 4)));
         assert_eq!(
-            walked(half, 1, 5),
+            searched(half, 1, 5),
             Ok((Verdict::Undecided { depth: 1, index: 1 }, 3))
         );
-        assert_eq!(walked([0, 4, 0, 0], 12, 8_191), Ok((Verdict::Inside, 1)));
+        assert_eq!(searched([0, 4, 0, 0], 12, 8_191), Ok((Verdict::Inside, 1)));
     }
 
     #[test]
     fn refuses_in_number_order() {
         let refused = |number| Err(Refusal { number, place: 0 });
-        assert_eq!(walked([1, 0, 0, 0], 13, 0), refused(7));
-        assert_eq!(walked([0, 16_777_217, 0, 0], 13, 0), refused(7));
-        assert_eq!(walked([0; 4], 13, 0), refused(8));
-        assert_eq!(walked([0; 4], 12, 0), refused(9));
-        assert_eq!(walked([0; 4], 12, 8_192), refused(9));
+        assert_eq!(searched([1, 0, 0, 0], 13, 0), refused(7));
+        assert_eq!(searched([0, 16_777_217, 0, 0], 13, 0), refused(7));
+        assert_eq!(searched([0; 4], 13, 0), refused(8));
+        assert_eq!(searched([0; 4], 12, 0), refused(9));
+        assert_eq!(searched([0; 4], 12, 8_192), refused(9));
     }
 
     #[test]
     fn is_never_spent_at_the_whole_budget() {
         let curve = Curve::new(&[[-1, 1, -1, 1]; 9]);
-        let walk = Walk {
-            area: [0; 4],
+        let search = Search {
+            limits: [0; 4],
             depth: 12,
             budget: 8_191,
         };
@@ -139,6 +145,6 @@ mod tests {
             depth: 12,
             index: 0,
         };
-        assert_eq!(walk.over(&curve), Ok((first, 8_191)));
+        assert_eq!(search.over(&curve), Ok((first, 8_191)));
     }
 }

@@ -1,11 +1,12 @@
-//! Numbers drawn by chance from a fixed seed.
+//! The random number generator of the cases. It is written out here, so that a seed gives the same
+//! cases on every machine and under every compiler.
 
 /// The generator splitmix64.
-pub struct Chance(u64);
+pub struct Rng(u64);
 
-impl Chance {
-    pub fn new(seed: u64) -> Chance {
-        Chance(seed)
+impl Rng {
+    pub fn new(seed: u64) -> Rng {
+        Rng(seed)
     }
 
     pub fn draw(&mut self) -> u64 {
@@ -39,8 +40,8 @@ mod tests {
     /// The first numbers of splitmix64 from seed 1234567, as its authors' program gives them.
     #[test]
     fn draws_as_splitmix64() {
-        let mut chance = Chance::new(1_234_567);
-        let drawn: Vec<u64> = (0..3).map(|_| chance.draw()).collect();
+        let mut rng = Rng::new(1_234_567);
+        let drawn: Vec<u64> = (0..3).map(|_| rng.draw()).collect();
         assert_eq!(
             drawn,
             [
