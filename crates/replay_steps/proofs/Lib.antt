@@ -2,8 +2,9 @@
 pub mod Ranges
 pub mod Requests
 pub mod Lines
-pub mod Numbers
+pub mod Fitting
 pub mod Points
+pub mod Gathered
 pub mod Replies
 pub mod Results
 pub mod Cards

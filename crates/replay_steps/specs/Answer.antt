@@ -10,7 +10,7 @@ use Rattle.curve.specs.declared.Rect.{Rect}
 use Rattle.curve.specs.declared.Refusal.{Refusal}
 use Rattle.curve.specs.Curve.{point}
 use Rattle.curve.specs.Calls.{evaluated, subdivided, elevated, bounded}
-use Rattle.search.specs.Verdict.{reported}
+use Rattle.search.specs.Verdict.{Report, reported}
 use Rattle.search.specs.Search.{searched}
 use Rattle.ledger.specs.Ledger.{Piece, left, right, kept}
 use Rattle.replay_steps.specs.declared.Case.{Case}
@@ -79,9 +79,12 @@ enclosure s =
     let b = bounded (s .curve) in
     answering s (b .refusal) s (sidesThen (b .rect) [])
 
--- a walk over a box: the verdict's number, depth, index and count
+-- a verdict's number, depth, index and count
+abbrev pub reportNumbers : Report → List ℤ
+reportNumbers v = pos (v .number) ∷ pos (v .depth) ∷ pos (v .index) ∷ pos (v .count) ∷ []
+
+-- a walk over a box: its verdict
 unfoldable pub verdict : Case → Rect → ℕ → ℕ → Answer
 verdict s limits depth budget =
     let a = searched (s .curve) limits depth budget in
-    let v = reported (a .verdict) in
-    answering s (a .refusal) s (pos (v .number) ∷ pos (v .depth) ∷ pos (v .index) ∷ pos (v .count) ∷ [])
+    answering s (a .refusal) s (reportNumbers (reported (a .verdict)))

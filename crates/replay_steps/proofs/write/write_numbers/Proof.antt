@@ -12,7 +12,7 @@ use Rattle.card_text.specs.Inner.{placed}
 use Rattle.card_text.proofs.Clamped.{told}
 use Rattle.card_text.proofs.Placed.{placed-none, placed-column, placed-then}
 use Rattle.replay_steps.specs.Line.{columns}
-use Rattle.replay_steps.proofs.Lines.{fitting-at, columns-next, columns-to}
+use Rattle.replay_steps.proofs.Lines.{fit-at, columns-next, columns-to}
 use Rattle.replay_steps.proofs.write.write_numbers.Statement.{statement}
 use Rattle.replay_steps.proofs.write.write_numbers.Tie as tie
 
@@ -60,7 +60,7 @@ loop-again c =
     let put : p .put-column .last .0 ≡ placed (l .loop .out) (s .args .at + 10 * k) (column z) =
     p .put-column .ensures .1
     ∙ ap (λ (x : ℤ). afterPut (l .loop .out) (s .args .at + 10 * k) x) (told z (p .before .put-column-arg2 .given))
-    ∙ placed-column (l .loop .out) (s .args .at + 10 * k) z (fitting-at numbers (s .pre .0) k within) (omega (arith, s .pre .1, l .loop .inv .1)) in (
+    ∙ placed-column (l .loop .out) (s .args .at + 10 * k) z (fit-at numbers k (s .pre .0) within) (omega (arith, s .pre .1, l .loop .inv .1)) in (
       omega arith,
       p .put-column .kept .0 ∙ l .loop .inv .1,
       put

@@ -1,9 +1,9 @@
 -- Numbers that are written: a side as an i64, and sides, counts and small numbers that fit a column.
 -- Assumes nothing.
-use mathlib.Core.Path.{_≡_, _∙_}
+use mathlib.Core.Path.{_≡_, ap, _∙_}
 use mathlib.Core.Bool.{true}
-use mathlib.Core.List.{List}
-use Prim.Native.Nat.{ℕ, _≤_, _<_, _^_, min}
+use mathlib.Core.List.{[], _∷_}
+use Prim.Native.Nat.{ℕ, _+_, _≤_, _<_, _^_, min}
 use native.Mathlib.Omega.{arith}
 use borrow.Author.Tests.{le-leb}
 use lib.IntN.{ℤ, pos}
@@ -19,9 +19,9 @@ use Rattle.curve.specs.Inner.{Held}
 use Rattle.curve.proofs.Machine.{told}
 use Rattle.curve.proofs.Sides.{wide}
 use Rattle.card_text.proofs.Fitting.{side-fits-column}
-use Rattle.replay_steps.specs.Line.{largest, capped}
+use Rattle.replay_steps.specs.Line.{allFit, largest, added, capped}
 use Rattle.replay_steps.specs.Answer.{sidesThen}
-use Rattle.replay_steps.specs.Inner.{Fitting}
+use Rattle.replay_steps.proofs.Lines.{fit-none, fit-more}
 
 -- ---- an i32 as an i64
 
@@ -34,13 +34,17 @@ module _ (z : ℤ) (h : mag z < 2 ^ hbits w32) where
 
 -- ---- what fits a column
 
-pub rect-fits : (p : Rect) → Held p → (more : List ℤ) → Fitting more → Fitting (sidesThen p more)
-rect-fits p held more rest =
+pub fit-one : (z : ℤ) → fitsColumn z ≡ true → allFit (z ∷ []) ≡ true
+fit-one z h = fit-more z [] h fit-none
+
+pub sides-fit : (p : Rect) → Held p → allFit (sidesThen p []) ≡ true
+sides-fit p held =
     let r = held .at resistance in
-    let x = held .at reactance in (
-      side-fits-column (p .resistance .low) (r .at down),
-      (side-fits-column (p .resistance .high) (r .at up), (side-fits-column (p .reactance .low) (x .at down), (side-fits-column (p .reactance .high) (x .at up), rest))),
-    )
+    let x = held .at reactance in
+    fit-more _ _ (side-fits-column (p .resistance .low) (r .at down))
+    (fit-more _ _ (side-fits-column (p .resistance .high) (r .at up))
+    (fit-more _ _ (side-fits-column (p .reactance .low) (x .at down))
+    (fit-one (p .reactance .high) (side-fits-column (p .reactance .high) (x .at up)))))
 
 pub number-fits : (n : ℕ) → n ≤ largest → fitsColumn (pos n) ≡ true
 unfolding fitsColumn
@@ -57,3 +61,7 @@ as-signed n h = toZ-ofZ w64 (pos n) (record { sfits = omega arith })
 -- a count as it is written, back from its bits
 pub capped-back : (n : ℕ) → toZ w64 (ofZ w64 (capped n)) ≡ capped n
 capped-back n = toZ-ofZ w64 (capped n) (record { sfits = omega arith })
+
+-- a sum as it is written, back from its bits
+pub sum-back : (a b : ℕ) → toZ w64 (ofZ w64 (capped (added a b))) ≡ capped (a + b)
+sum-back a b = let most : min (added a b) largest ≡ added a b = omega arith in capped-back (added a b) ∙ ap {B = ℤ} pos most
