@@ -45,3 +45,13 @@ degree-back (negsuc n) h = absurd (omega arith)
 pub degree-of-pos : (n : ℕ) → n ≤ maxDegree → degreeOf (pos n) ≡ n
 unfolding degreeOf
 degree-of-pos n h = ap (λ (b : Bool). cond b n 0) (le-leb n maxDegree h)
+
+-- whatever the number
+pub degree-at-most : (z : ℤ) → degreeOf z ≤ maxDegree
+unfolding degreeOf
+degree-at-most (pos n) = go (leb n maxDegree) refl
+  where
+    go : (t : Bool) → leb n maxDegree ≡ t → cond t n 0 ≤ maxDegree
+    go true e = leb-true n maxDegree e
+    go false e = omega arith
+degree-at-most (negsuc n) = omega arith

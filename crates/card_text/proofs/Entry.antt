@@ -1,26 +1,27 @@
--- Columns and line ends: what is read at an offset, and the text that stands there.
+-- Columns, line ends and lines: what is read at an offset, and the text that stands there.
 -- Assumes nothing.
 use mathlib.Core.Path.{_≡_, refl, sym, ap, _∙_}
 use mathlib.Core.Bool.{true, false≢true}
-use mathlib.Core.List.{List, [], _∷_, _++_}
-use Prim.Native.Nat.{ℕ, suc, _<_}
+use mathlib.Core.List.{List, [], _∷_, _++_, append-assoc}
+use Prim.Native.Nat.{ℕ, suc, _+_, _*_, _<_}
 use native.Mathlib.Nat.{add-zero}
 use native.Mathlib.Decide.{decLt}
 use native.Mathlib.Omega.{arith}
 use lib.Dec.{eqb}
 use lib.IntN.{ℤ, pos}
 use lib.ListN.{length, getD, take, drop, take-append-drop, List·getD-eq-default}
-use lib.Seq.{take-at, drop-cons, getD-drop}
+use lib.Seq.{drop-cons, drop-drop, getD-drop}
 use borrow.Author.Tests.{eq-eqb, eqb-true}
 use Rattle.columns.specs.declared.Column.{Column}
 use Rattle.columns.specs.declared.Column.the-variants.{Number, Malformed}
 use Rattle.columns.specs.Column.{column, readAt}
+use Rattle.columns.specs.Line.{newline, columns, line, lineLength, allFit}
+use Rattle.columns.proofs.Lines.{columns-long, columns-at}
 use Rattle.columns.proofs.Promises.{column-is-ten, column-reads, read-is-written}
 use Rattle.curve.specs.Refusals.{refusal, none}
-use Rattle.card_text.specs.Card.{newline}
 use Rattle.card_text.specs.Reading.{wellFormed, numberOf, numberAt, columnRefusal, lineEndRefusal}
 use Rattle.card_text.proofs.Accepting.{unless-zero, unless-none}
-use Rattle.card_text.proofs.Stands.{Stands}
+use Rattle.card_text.proofs.Stands.{Stands, stands-none, stands-both, stands-second}
 
 module _ (bytes : List ℕ) (at : ℕ) where
   pub entry-number : (z : ℤ) → readAt bytes at ≡ Number z → (none ≡ columnRefusal bytes at) × (z ≡ numberAt bytes at)
@@ -46,12 +47,6 @@ module _ (bytes : List ℕ) (at : ℕ) where
       number (Number z) e = refl
       number Malformed e = absurd (false≢true e)
 
-  -- and a number's text is read as the number
-  pub stands-entry : (z : ℤ) → Stands bytes at 10 (column z) → (columnRefusal bytes at ≡ none) × (numberAt bytes at ≡ z)
-  stands-entry z s =
-      let (a, b) = entry-number z (column-reads bytes at z (ap (λ (l : List ℕ). take 10 l) (s .here) ∙ take-at (column z) (s .rest) 10 (s .long))) in
-      (sym a, sym b)
-
   -- the same of a line end
   pub end-stands : lineEndRefusal bytes at .number ≡ 0 → Stands bytes at 1 (newline ∷ [])
   unfolding lineEndRefusal
@@ -70,3 +65,29 @@ module _ (bytes : List ℕ) (at : ℕ) where
       let first : getD (drop at bytes) 0 0 ≡ newline = ap (λ (l : List ℕ). getD l 0 0) (s .here) in
       let e : getD bytes at 0 ≡ newline = ap (λ (i : ℕ). getD bytes i 0) (sym (add-zero at)) ∙ sym (getD-drop at bytes 0 0) ∙ first in
       unless-none (eqb (getD bytes at 0) newline) 11 at (eq-eqb (getD bytes at 0) newline e)
+
+-- no columns, and a column in front of others that stand behind it
+pub columns-none : (bytes : List ℕ) (at : ℕ) → Stands bytes at 0 (columns [])
+unfolding columns
+columns-none bytes at = stands-none bytes at
+
+pub column-then : {bytes : List ℕ} {at n : ℕ} (z : ℤ) (zs : List ℤ) → Stands bytes at 10 (column z) → Stands bytes (at + 10) n (columns zs) → Stands bytes at (10 + n) (columns (z ∷ zs))
+unfolding columns
+column-then z zs s t = stands-both s t
+
+-- a line of numbers that fit is read as the numbers, and its end as a line end
+module _ (bytes : List ℕ) (at : ℕ) (zs : List ℤ) (fits : allFit zs ≡ true) (s : Stands bytes at (lineLength (length zs)) (line zs)) where
+  pub line-read : (k n : ℕ) → k < length zs → at + 10 * k ≡ n → (columnRefusal bytes n ≡ none) × (numberAt bytes n ≡ getD zs k (pos 0))
+  unfolding line
+  line-read k n h e =
+      let (a, b) = entry-number bytes n (getD zs k (pos 0)) (column-reads bytes n (getD zs k (pos 0)) ten) in
+      (sym a, sym b)
+    where
+      ten : take 10 (drop n bytes) ≡ column (getD zs k (pos 0))
+      ten =
+          ap (λ (l : List ℕ). take 10 l) (ap (λ (i : ℕ). drop i bytes) (sym e) ∙ sym (drop-drop (10 * k) at bytes) ∙ ap (λ (l : List ℕ). drop (10 * k) l) (s .here ∙ append-assoc (columns zs) (newline ∷ []) (s .rest)))
+          ∙ columns-at zs ((newline ∷ []) ++ s .rest) k fits h
+
+  pub line-end-read : lineEndRefusal bytes (at + 10 * length zs) ≡ none
+  unfolding line
+  line-end-read = stands-end bytes (at + 10 * length zs) (stands-second (columns zs) (newline ∷ []) s (columns-long zs fits) refl)

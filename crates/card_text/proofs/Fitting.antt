@@ -1,7 +1,7 @@
--- Sides in range and degrees fit a column, so each line has its length.
+-- Sides in range and degrees fit a column, so each line is put where it has room, and has its length.
 -- Assumes nothing.
 use mathlib.Core.Path.{_≡_, refl, _∙_}
-use mathlib.Core.List.{[], _∷_, _++_}
+use mathlib.Core.List.{List, [], _∷_}
 use mathlib.Core.Bool.{true}
 use Prim.Native.Nat.{ℕ, zero, suc, _+_, _*_, _≤_, _<_}
 use native.Mathlib.Omega.{arith}
@@ -11,18 +11,19 @@ use lib.ListN.{length, length-append}
 use borrow.Author.Tests.{le-leb}
 use Rattle.rational.proofs.Order.{pos-reflects}
 use Rattle.rational.specs.Rounding.{down, up}
-use Rattle.columns.specs.Column.{column, fitsColumn}
-use Rattle.columns.proofs.Promises.{column-is-ten}
+use Rattle.columns.specs.Column.{fitsColumn}
+use Rattle.columns.specs.Line.{placed, allFit, afterLine}
+use Rattle.columns.proofs.Lines.{fit-none, fit-more, line-long}
+use Rattle.columns.proofs.Put.{line-put}
 use Rattle.curve.specs.declared.Curve.{Curve}
-use Rattle.curve.specs.declared.Interval.{Interval}
 use Rattle.curve.specs.declared.Rect.{Rect}
 use Rattle.curve.specs.Limits.{maxDegree}
 use Rattle.curve.specs.Rect.{resistance, reactance}
 use Rattle.curve.specs.Curve.{point}
 use Rattle.curve.specs.Refusals.{Accepted}
-use Rattle.curve.specs.Inner.{Side, Sides, Held}
+use Rattle.curve.specs.Inner.{Side, Held}
 use Rattle.curve.proofs.Accepted.{accepted-ready}
-use Rattle.card_text.specs.Card.{newline, header, ends, row, rows, cardOf, headerLength, rowLength, cardLength}
+use Rattle.card_text.specs.Card.{sides, header, row, rows, cardOf, headerLength, rowLength, cardLength}
 
 pub side-fits-column : (z : ℤ) → Side z → fitsColumn z ≡ true
 unfolding fitsColumn
@@ -33,24 +34,37 @@ pub degree-fits-column : (n : ℕ) → n ≤ maxDegree → fitsColumn (pos n) �
 unfolding fitsColumn
 degree-fits-column n h = le-leb n 9999999999 (omega arith)
 
+pub sides-fit : {p : Rect} → Held p → allFit (sides p) ≡ true
+sides-fit {p} h =
+    let r = h .at resistance in
+    let x = h .at reactance in
+    let high = fit-more (p .reactance .high) [] (side-fits-column _ (x .at up)) fit-none in
+    let second = fit-more (p .reactance .low) (p .reactance .high ∷ []) (side-fits-column _ (x .at down)) high in
+    let last = fit-more (p .resistance .high) (p .reactance .low ∷ p .reactance .high ∷ []) (side-fits-column _ (r .at up)) second in
+    fit-more (p .resistance .low) (p .resistance .high ∷ p .reactance .low ∷ p .reactance .high ∷ []) (side-fits-column _ (r .at down)) last
+
+pub degree-fits : (n : ℕ) → n ≤ maxDegree → allFit (pos n ∷ []) ≡ true
+degree-fits n h = fit-more (pos n) [] (degree-fits-column n h) fit-none
+
+-- ---- what is put
+
+pub header-put : (bytes : List ℕ) (n : ℕ) → n ≤ maxDegree → headerLength ≤ length bytes → afterLine bytes 0 (pos n ∷ []) ≡ placed bytes 0 (header n)
+unfolding header
+header-put bytes n few room = line-put bytes 0 (pos n ∷ []) (degree-fits n few) room .1
+
+pub row-put : (bytes : List ℕ) (at : ℕ) {p : Rect} → Held p → at + rowLength ≤ length bytes → afterLine bytes at (sides p) ≡ placed bytes at (row p)
+unfolding row
+row-put bytes at {p} h room = line-put bytes at (sides p) (sides-fit h) room .1
+
 -- ---- lengths
 
 pub header-long : (n : ℕ) → n ≤ maxDegree → length (header n) ≡ headerLength
 unfolding header
-header-long n h = length-append (column (pos n)) (newline ∷ []) ∙ rw (column-is-ten (pos n) (degree-fits-column n h))
-
-pub ends-long : {i : Interval} → Sides i → length (ends i) ≡ 20
-unfolding ends
-ends-long {i} h =
-    length-append (column (i .low)) (column (i .high))
-    ∙ rw (column-is-ten (i .low) (side-fits-column (i .low) (h .at down)), column-is-ten (i .high) (side-fits-column (i .high) (h .at up)))
-
-pub both-long : {p : Rect} → Held p → length (ends (p .resistance) ++ ends (p .reactance)) ≡ 40
-both-long {p} h = length-append (ends (p .resistance)) (ends (p .reactance)) ∙ rw (ends-long (h .at resistance), ends-long (h .at reactance))
+header-long n h = line-long (pos n ∷ []) (degree-fits n h)
 
 pub row-long : {p : Rect} → Held p → length (row p) ≡ rowLength
 unfolding row
-row-long {p} h = length-append (ends (p .resistance) ++ ends (p .reactance)) (newline ∷ []) ∙ rw (both-long h)
+row-long {p} h = line-long (sides p) (sides-fit h)
 
 pub rows-long : (m : ℕ) (P : ℕ → Rect) → ((k : ℕ) → k < m → length (row (P k)) ≡ rowLength) → length (rows m P) ≡ rowLength * m
 unfolding rows

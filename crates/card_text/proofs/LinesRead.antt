@@ -1,56 +1,47 @@
 -- Lines that stand at their offsets are read without a refusal as what they are the text of, so the card of a curve is read as the curve.
 -- Assumes nothing.
 use mathlib.Core.Path.{_≡_, refl, ap₂, subst}
-use mathlib.Core.List.{List, [], _∷_, _++_}
+use mathlib.Core.List.{List, [], _∷_}
 use mathlib.Core.Logic.{inl, inr}
 use Prim.Native.Nat.{ℕ, zero, suc, _+_, _*_, _≤_, _<_}
 use native.Mathlib.Nat.{eq-or-lt-of-le}
 use native.Mathlib.Omega.{arith}
 use lib.IntN.{ℤ, pos}
-use Rattle.rational.specs.Rounding.{down, up}
-use Rattle.columns.specs.Column.{column}
-use Rattle.columns.proofs.Promises.{column-is-ten}
 use Rattle.curve.specs.declared.Interval.{Interval}
 use Rattle.curve.specs.declared.Rect.{Rect}
 use Rattle.curve.specs.Limits.{maxDegree}
-use Rattle.curve.specs.Rect.{resistance, reactance}
 use Rattle.curve.specs.Refusals.{none}
-use Rattle.curve.specs.Inner.{Sides, Held}
-use Rattle.card_text.specs.Card.{newline, header, ends, row, rows, headerLength, rowLength, rowAt}
+use Rattle.curve.specs.Inner.{Held}
+use Rattle.card_text.specs.Card.{sides, header, row, rows, headerLength, rowLength, rowAt}
 use Rattle.card_text.specs.Reading.{numberAt, intervalAt, rectAt, columnRefusal, lineEndRefusal, endsRefusal, rowRefusal, rowsRefusal}
 use Rattle.card_text.proofs.Accepting.{or-none}
-use Rattle.card_text.proofs.Entry.{stands-entry, stands-end}
-use Rattle.card_text.proofs.Fitting.{side-fits-column, degree-fits-column, ends-long, both-long, row-long, rows-long}
+use Rattle.card_text.proofs.Entry.{line-read, line-end-read}
+use Rattle.card_text.proofs.Fitting.{sides-fit, degree-fits, row-long, rows-long}
 use Rattle.card_text.proofs.Stands.{Stands, stands-first, stands-second}
 
 module _ (bytes : List ℕ) where
-  pub ends-read : (at : ℕ) (i : Interval) → Sides i → Stands bytes at 20 (ends i) → (endsRefusal bytes at ≡ none) × (intervalAt bytes at ≡ i)
-  unfolding endsRefusal intervalAt ends
-  ends-read at i h s =
-      let ten = column-is-ten (i .low) (side-fits-column (i .low) (h .at down)) in
-      let ten′ = column-is-ten (i .high) (side-fits-column (i .high) (h .at up)) in
-      let (a, low) = stands-entry bytes at (i .low) (stands-first (column (i .low)) (column (i .high)) s ten) in
-      let (b, high) = stands-entry bytes (at + 10) (i .high) (stands-second (column (i .low)) (column (i .high)) s ten ten′) in
-      (or-none (columnRefusal bytes at) (columnRefusal bytes (at + 10)) a b, ap₂ (λ (x y : ℤ). record { low = x; high = y }) low high)
-
   pub row-read : (at : ℕ) (p : Rect) → Held p → Stands bytes at rowLength (row p) → (rowRefusal bytes at ≡ none) × (rectAt bytes at ≡ p)
-  unfolding rowRefusal rectAt row
+  unfolding rowRefusal endsRefusal rectAt intervalAt row
   row-read at p h s =
-      let first = ends (p .resistance) in
-      let second = ends (p .reactance) in
-      let sides = stands-first (first ++ second) (newline ∷ []) s (both-long h) in
-      let (a, i) = ends-read at (p .resistance) (h .at resistance) (stands-first first second sides (ends-long (h .at resistance))) in
-      let (b, j) = ends-read (at + 20) (p .reactance) (h .at reactance) (stands-second first second sides (ends-long (h .at resistance)) (ends-long (h .at reactance))) in
-      let c = stands-end bytes (at + 40) (stands-second (first ++ second) (newline ∷ []) s (both-long h) refl) in
-      (or-none (endsRefusal bytes at) _ a (or-none (endsRefusal bytes (at + 20)) (lineEndRefusal bytes (at + 40)) b c), ap₂ (λ (x y : Interval). record { resistance = x; reactance = y }) i j)
+      let entry = line-read bytes at (sides p) (sides-fit h) s in
+      let (a, first) = entry 0 at (omega arith) (omega arith) in
+      let (b, second) = entry 1 (at + 10) (omega arith) refl in
+      let (c, third) = entry 2 (at + 20) (omega arith) refl in
+      let (d, fourth) = entry 3 (at + 20 + 10) (omega arith) (omega arith) in
+      let end = line-end-read bytes at (sides p) (sides-fit h) s in (
+        or-none (endsRefusal bytes at) _ (or-none (columnRefusal bytes at) (columnRefusal bytes (at + 10)) a b)
+            (or-none (endsRefusal bytes (at + 20)) (lineEndRefusal bytes (at + 40)) (or-none (columnRefusal bytes (at + 20)) (columnRefusal bytes (at + 20 + 10)) c d) end),
+        ap₂ (λ (i j : Interval). record { resistance = i; reactance = j })
+            (ap₂ (λ (x y : ℤ). record { low = x; high = y }) first second)
+            (ap₂ (λ (x y : ℤ). record { low = x; high = y }) third fourth),
+      )
 
   pub header-read : (n : ℕ) → n ≤ maxDegree → Stands bytes 0 headerLength (header n) →
       (columnRefusal bytes 0 ≡ none) × (numberAt bytes 0 ≡ pos n) × (lineEndRefusal bytes 10 ≡ none)
   unfolding header
   header-read n few s =
-      let ten = column-is-ten (pos n) (degree-fits-column n few) in
-      let (a, z) = stands-entry bytes 0 (pos n) (stands-first (column (pos n)) (newline ∷ []) s ten) in
-      (a, z, stands-end bytes 10 (stands-second (column (pos n)) (newline ∷ []) s ten refl))
+      let (a, z) = line-read bytes 0 (pos n ∷ []) (degree-fits n few) s 0 0 (omega arith) refl in
+      (a, z, line-end-read bytes 0 (pos n ∷ []) (degree-fits n few) s)
 
   pub rows-read : (m : ℕ) → ((k : ℕ) → k < m → rowRefusal bytes (rowAt k) ≡ none) → rowsRefusal bytes m ≡ none
   unfolding rowsRefusal

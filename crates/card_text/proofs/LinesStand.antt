@@ -5,18 +5,18 @@ use mathlib.Core.List.{List, [], _∷_, _++_}
 use Prim.Native.Nat.{ℕ, zero, suc, _+_, _*_, _≤_, _<_}
 use native.Mathlib.Omega.{arith}
 use lib.IntN.{ℤ}
-use Rattle.columns.specs.Column.{column}
+use Rattle.columns.specs.Line.{line}
 use Rattle.curve.specs.declared.Rect.{Rect}
 use Rattle.curve.specs.Limits.{maxDegree}
 use Rattle.curve.specs.Curve.{point}
 use Rattle.curve.proofs.Points.{point-at}
 use Rattle.curve.proofs.Accepted.{or-split}
-use Rattle.card_text.specs.Card.{newline, header, ends, row, rows, cardOf, rowLength, rowAt, headerLength}
+use Rattle.card_text.specs.Card.{header, row, rows, cardOf, rowLength, rowAt, headerLength}
 use Rattle.card_text.specs.Reading.{numberAt, degreeOf, intervalAt, rectAt, decoded, columnRefusal, lineEndRefusal, endsRefusal, rowRefusal, rowsRefusal}
 use Rattle.card_text.proofs.Degree.{degree-back}
-use Rattle.card_text.proofs.Entry.{entry-stands, end-stands}
+use Rattle.card_text.proofs.Entry.{entry-stands, end-stands, columns-none, column-then}
 use Rattle.card_text.proofs.ReadingAnswer.{FirstLine}
-use Rattle.card_text.proofs.Stands.{Stands, stands-none, stands-both, stands-sized, stands-is}
+use Rattle.card_text.proofs.Stands.{Stands, stands-none, stands-both, stands-at, stands-sized, stands-is}
 
 -- lines of equal rectangles
 pub rows-agree : (m : ℕ) {P Q : ℕ → Rect} → ((k : ℕ) → k < m → P k ≡ Q k) → rows m P ≡ rows m Q
@@ -25,18 +25,18 @@ rows-agree zero h = refl
 rows-agree (suc m) h = ap₂ (λ (l : List ℕ) (p : Rect). l ++ row p) (rows-agree m (λ k l. h k (omega arith))) (h m (omega arith))
 
 module _ (bytes : List ℕ) where
-  pub ends-stand : (at : ℕ) → endsRefusal bytes at .number ≡ 0 → Stands bytes at 20 (ends (intervalAt bytes at))
-  unfolding endsRefusal intervalAt ends
-  ends-stand at h =
-      let (low, high) = or-split (columnRefusal bytes at) (columnRefusal bytes (at + 10)) h in
-      stands-both (entry-stands bytes at low) (entry-stands bytes (at + 10) high)
-
   pub row-stands : (at : ℕ) → rowRefusal bytes at .number ≡ 0 → Stands bytes at rowLength (row (rectAt bytes at))
-  unfolding rowRefusal rectAt row
+  unfolding rowRefusal endsRefusal rectAt intervalAt row line
   row-stands at h =
+      let p = rectAt bytes at in
       let (first, h₁) = or-split (endsRefusal bytes at) _ h in
       let (second, end) = or-split (endsRefusal bytes (at + 20)) (lineEndRefusal bytes (at + 40)) h₁ in
-      stands-both (stands-both (ends-stand at first) (ends-stand (at + 20) second)) (end-stands bytes (at + 40) end)
+      let (a, b) = or-split (columnRefusal bytes at) (columnRefusal bytes (at + 10)) first in
+      let (c, d) = or-split (columnRefusal bytes (at + 20)) (columnRefusal bytes (at + 20 + 10)) second in
+      let last = column-then (p .reactance .high) [] (entry-stands bytes (at + 20 + 10) d) (columns-none bytes (at + 20 + 10 + 10)) in
+      let later = column-then (p .reactance .low) _ (entry-stands bytes (at + 20) c) last in
+      let most = column-then (p .resistance .high) _ (entry-stands bytes (at + 10) b) (stands-at (omega arith) later) in
+      stands-both (column-then (p .resistance .low) _ (entry-stands bytes at a) most) (end-stands bytes (at + 40) end)
 
   -- the rectangles of the lines
   abbrev rects : ℕ → Rect
@@ -51,10 +51,10 @@ module _ (bytes : List ℕ) where
       stands-sized size (stands-both (rows-stand m before) (row-stands (rowAt m) last))
 
   pub header-stands : FirstLine bytes → Stands bytes 0 headerLength (header (decoded bytes .degree))
-  unfolding header decoded
+  unfolding header decoded line
   header-stands f =
-      subst (λ (z : ℤ). Stands bytes 0 headerLength (column z ++ (newline ∷ []))) (degree-back (numberAt bytes 0) (f .some))
-      (stands-both (entry-stands bytes 0 (f .entry)) (end-stands bytes 10 (f .ended)))
+      subst (λ (z : ℤ). Stands bytes 0 headerLength (line (z ∷ []))) (degree-back (numberAt bytes 0) (f .some))
+      (stands-both (column-then (numberAt bytes 0) [] (entry-stands bytes 0 (f .entry)) (columns-none bytes 10)) (end-stands bytes 10 (f .ended)))
 
   pub card-stands : FirstLine bytes → rowsRefusal bytes (decoded bytes .degree + 1) .number ≡ 0 → cardOf (decoded bytes) ≡ bytes
   unfolding cardOf

@@ -17,11 +17,11 @@ use Rattle.curve.specs.Refusals.{none, _orElse_}
 use Rattle.curve.proofs.Places.{is-points}
 use Rattle.card_text.specs.Card.{rowAt}
 use Rattle.card_text.specs.Reading.{rowRefusal, rowsRefusal, rectAt}
-use Rattle.card_text.specs.Inner.{clampedRect}
+use Rattle.card_text.specs.Inner.{limitedRect}
 
 -- the rectangles as the reader holds them
 abbrev pub heldAt : List ℕ → ℕ → Rect
-heldAt bytes k = clampedRect (rectAt bytes (rowAt k))
+heldAt bytes k = limitedRect (rectAt bytes (rowAt k))
 
 -- k lines are read
 pub record RowsRead (bytes : List ℕ) (k : ℕ) (refusal : Refusal) (points : List Rect) : Type 0 where

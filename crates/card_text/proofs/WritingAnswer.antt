@@ -8,6 +8,8 @@ use native.Mathlib.Omega.{arith}
 use lib.Dec.{leb, eqb}
 use lib.ListN.{length, drop}
 use borrow.Author.Tests.{le-leb, leb-true, eq-eqb, ne-eqb}
+use Rattle.columns.specs.Line.{placed}
+use Rattle.columns.proofs.Placed.{placed-front, placed-then}
 use Rattle.curve.specs.declared.Curve.{Curve}
 use Rattle.curve.specs.declared.Refusal.{Refusal}
 use Rattle.curve.specs.Curve.{point}
@@ -17,10 +19,8 @@ use Rattle.card_text.specs.declared.CardWritten.{CardWritten}
 use Rattle.card_text.specs.Card.{header, rows, cardOf, headerLength, cardLength}
 use Rattle.card_text.specs.Reading.{unlessAt}
 use Rattle.card_text.specs.Writing.{writingRefusal, writeCard, bytesAfter}
-use Rattle.card_text.specs.Inner.{placed}
 use Rattle.card_text.proofs.Accepting.{or-none, unless-zero, unless-none}
 use Rattle.card_text.proofs.Fitting.{header-long, card-long}
-use Rattle.card_text.proofs.Placed.{placed-front, placed-then}
 
 module _ (c : Curve) (size : ℕ) where
   -- 12, or none

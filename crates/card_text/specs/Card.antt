@@ -2,28 +2,24 @@
 -- Assumes nothing.
 use Prim.Native.Nat.{ℕ, zero, suc, _+_, _*_}
 use mathlib.Core.List.{List, [], _∷_, _++_}
-use lib.IntN.{pos}
-use Rattle.columns.specs.Column.{column}
+use lib.IntN.{ℤ, pos}
+use Rattle.columns.specs.Line.{line}
 use Rattle.curve.specs.declared.Curve.{Curve}
-use Rattle.curve.specs.declared.Interval.{Interval}
 use Rattle.curve.specs.declared.Rect.{Rect}
+use Rattle.curve.specs.Limits.{places}
 use Rattle.curve.specs.Curve.{point}
 
--- the byte that ends every line
-abbrev pub newline : ℕ
-newline = 10
+-- a rectangle's four sides in their order
+abbrev pub sides : Rect → List ℤ
+sides p = p .resistance .low ∷ p .resistance .high ∷ p .reactance .low ∷ p .reactance .high ∷ []
 
 -- the first line: the degree
 unfoldable pub header : ℕ → List ℕ
-header n = column (pos n) ++ (newline ∷ [])
+header n = line (pos n ∷ [])
 
--- the two columns of an interval
-unfoldable pub ends : Interval → List ℕ
-ends i = column (i .low) ++ column (i .high)
-
--- the line of a rectangle: its four sides in their order
+-- the line of a rectangle: its sides
 unfoldable pub row : Rect → List ℕ
-row p = ends (p .resistance) ++ ends (p .reactance) ++ (newline ∷ [])
+row p = line (sides p)
 
 -- the lines of the first m rectangles
 unfoldable pub rows : ℕ → (ℕ → Rect) → List ℕ
@@ -44,6 +40,10 @@ rowLength = 41
 -- the bytes of a card of degree n
 abbrev pub cardLength : ℕ → ℕ
 cardLength n = headerLength + rowLength * (n + 1)
+
+-- the bytes of the longest card
+abbrev pub longestCard : ℕ
+longestCard = headerLength + rowLength * places
 
 -- the offset of rectangle k's line; its sides stand there and 10, 20 and 30 bytes on, its line end 40 bytes on
 abbrev pub rowAt : ℕ → ℕ

@@ -1,11 +1,9 @@
 -- What the functions inside the crate ask of each other. No public contract cites it.
 -- Assumes nothing.
-use Prim.Native.Nat.{ℕ, suc, _+_}
+use Prim.Native.Nat.{ℕ, suc}
 use mathlib.Core.Bool.{_&&_, cond}
-use mathlib.Core.List.{List, _++_}
 use lib.Dec.{leb}
 use lib.IntN.{ℤ, pos}
-use lib.ListN.{length, take, drop}
 use Rattle.curve.specs.declared.Interval.{Interval}
 use Rattle.curve.specs.declared.Rect.{Rect}
 use Rattle.curve.specs.declared.Refusal.{Refusal}
@@ -15,18 +13,14 @@ use Rattle.curve.specs.Refusals.{_orElse_, unless}
 use Rattle.card_text.specs.Reading.{lengthRefusal}
 
 -- a number as the reader holds it: itself if it is in a side's range, and else one that is out of range too
-unfoldable pub clamped : ℤ → ℤ
-clamped z = cond (inRange z) z (pos (suc maxSide))
+unfoldable pub limited : ℤ → ℤ
+limited z = cond (inRange z) z (pos (suc maxSide))
 
-unfoldable pub clampedEnds : Interval → Interval
-clampedEnds i = record { low = clamped (i .low); high = clamped (i .high) }
+unfoldable pub limitedEnds : Interval → Interval
+limitedEnds i = record { low = limited (i .low); high = limited (i .high) }
 
-unfoldable pub clampedRect : Rect → Rect
-clampedRect p = record { resistance = clampedEnds (p .resistance); reactance = clampedEnds (p .reactance) }
-
--- the bytes with a text at an offset
-unfoldable pub placed : List ℕ → ℕ → List ℕ → List ℕ
-placed bytes at text = take at bytes ++ text ++ drop (at + length text) bytes
+unfoldable pub limitedRect : Rect → Rect
+limitedRect p = record { resistance = limitedEnds (p .resistance); reactance = limitedEnds (p .reactance) }
 
 -- 1, then 10: the degree, and the length for it
 unfoldable pub sizeRefusal : ℕ → ℕ → Refusal

@@ -9,6 +9,7 @@ use lib.ListN.{length, getD}
 use Rattle.columns.specs.declared.Column.{Column}
 use Rattle.columns.specs.declared.Column.the-variants.{Number, Malformed}
 use Rattle.columns.specs.Column.{readAt}
+use Rattle.columns.specs.Line.{newline}
 use Rattle.curve.specs.declared.Curve.{Curve}
 use Rattle.curve.specs.declared.Interval.{Interval}
 use Rattle.curve.specs.declared.Rect.{Rect}
@@ -17,7 +18,7 @@ use Rattle.curve.specs.Limits.{maxDegree}
 use Rattle.curve.specs.Curve.{curveOf, zeroCurve}
 use Rattle.curve.specs.Refusals.{refusal, none, _orElse_, degreeRefusal, rangeRefusal, orderRefusal}
 use Rattle.card_text.specs.declared.CardRead.{CardRead}
-use Rattle.card_text.specs.Card.{newline, headerLength, cardLength, rowAt}
+use Rattle.card_text.specs.Card.{headerLength, cardLength, rowAt}
 
 -- ---- the numbers
 

@@ -10,6 +10,7 @@ ghost use Rattle.card_text.specs.Card.{cardLength};
 ghost use Rattle.card_text.specs.Reading.{unlessAt, lineEndRefusal};
 ghost use Rattle.card_text.specs.Inner.{sizeRefusal};
 ghost use Rattle.card_text.specs.Writing.{writingRefusal};
+use columns::NEWLINE;
 use curve::Curve;
 use curve::MAX_DEGREE;
 use curve::Refusal;
@@ -19,9 +20,6 @@ use curve::curve_refusal;
 pub const HEADER_LENGTH: usize = 11;
 
 pub const ROW_LENGTH: usize = 41;
-
-// The byte that ends a line.
-pub const NEWLINE: u8 = 10;
 
 // The first refusal, and the second where the first is none.
 pub fn first_of(a: Refusal, b: Refusal) -> Refusal

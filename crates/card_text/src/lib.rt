@@ -8,17 +8,28 @@ mod checks;
 mod read;
 mod write;
 
-use checks::card_length;
+use checks::HEADER_LENGTH;
+use checks::ROW_LENGTH;
 use checks::first_of;
 use checks::writing_refusal;
+use columns::put_line;
 use curve::Curve;
+use curve::PLACES;
 use curve::Refusal;
 use curve::curve_refusal;
 use read::read_header;
 use read::read_rows;
 use read::zero_curve;
-use write::write_header;
 use write::write_rows;
+
+// The length of a card by its degree.
+pub use checks::card_length;
+
+// A rectangle's numbers as its line shows them.
+pub use write::sides;
+
+// The bytes of the longest card.
+pub const LONGEST_CARD: usize = HEADER_LENGTH + ROW_LENGTH * PLACES;
 
 // The answer of read_card.
 pub struct CardRead {
@@ -71,7 +82,8 @@ pub fn write_card(c: Curve, out: &mut [u8]) -> CardWritten
     if refusal.number != 0 {
         return CardWritten { refusal, length: 0 };
     }
-    write_header(out, c.degree);
+    let header = [c.degree as i64];
+    put_line(out, 0, &header);
     write_rows(out, c);
     CardWritten {
         refusal,

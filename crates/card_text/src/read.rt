@@ -17,7 +17,7 @@ ghost use Rattle.card_text.specs.Reading.{
   rowsRefusal,
   headerRefusal,
 };
-ghost use Rattle.card_text.specs.Inner.{clamped, clampedEnds, clampedRect};
+ghost use Rattle.card_text.specs.Inner.{limited, limitedEnds, limitedRect};
 use crate::checks::HEADER_LENGTH;
 use crate::checks::ROW_LENGTH;
 use crate::checks::first_of;
@@ -84,7 +84,7 @@ pub fn zero_curve() -> Curve
 
 // A number as a side: one beyond every side's range becomes the first number above it.
 fn side_of(value: i64) -> i32
-    ensures { λ r. ⌜ r ≡ clamped value ⌝ }
+    ensures { λ r. ⌜ r ≡ limited value ⌝ }
 {
     if MIN_SIDE as i64 <= value && value <= MAX_SIDE as i64 {
         return value as i32;
@@ -151,7 +151,7 @@ pub fn read_header(bytes: &[u8]) -> Header
 // The two columns of an interval that begin at an offset.
 fn read_ends(bytes: &[u8], at: usize) -> Ends
     requires { ⌜ at + 20 ≤ length (now bytes) ⌝ }
-    ensures { λ r. ⌜ (r .refusal ≡ endsRefusal (now (bytes .entry)) at) × (r .interval ≡ clampedEnds (intervalAt (now (bytes .entry)) at)) ⌝ }
+    ensures { λ r. ⌜ (r .refusal ≡ endsRefusal (now (bytes .entry)) at) × (r .interval ≡ limitedEnds (intervalAt (now (bytes .entry)) at)) ⌝ }
 {
     let low = read_entry(bytes, at);
     let high = read_entry(bytes, at + 10);
@@ -167,7 +167,7 @@ fn read_ends(bytes: &[u8], at: usize) -> Ends
 // The line of a rectangle that begins at an offset.
 fn read_row(bytes: &[u8], at: usize) -> Row
     requires { ⌜ at + 41 ≤ length (now bytes) ⌝ }
-    ensures { λ r. ⌜ (r .refusal ≡ rowRefusal (now (bytes .entry)) at) × (r .rect ≡ clampedRect (rectAt (now (bytes .entry)) at)) ⌝ }
+    ensures { λ r. ⌜ (r .refusal ≡ rowRefusal (now (bytes .entry)) at) × (r .rect ≡ limitedRect (rectAt (now (bytes .entry)) at)) ⌝ }
 {
     let first = read_ends(bytes, at);
     let second = read_ends(bytes, at + 20);
@@ -187,7 +187,7 @@ fn read_row(bytes: &[u8], at: usize) -> Row
 pub fn read_rows(bytes: &[u8], degree: u32) -> Rows
     requires { ⌜ degree ≤ maxDegree ⌝ }
     requires { ⌜ length (now bytes) ≡ cardLength degree ⌝ }
-    ensures { λ r. ⌜ (r .refusal ≡ rowsRefusal (now (bytes .entry)) (degree + 1)) × (r .points ≡ pointsOf degree (λ k. clampedRect (rectAt (now (bytes .entry)) (rowAt k)))) ⌝ }
+    ensures { λ r. ⌜ (r .refusal ≡ rowsRefusal (now (bytes .entry)) (degree + 1)) × (r .points ≡ pointsOf degree (λ k. limitedRect (rectAt (now (bytes .entry)) (rowAt k)))) ⌝ }
 {
     let n = degree as usize;
     let mut refusal = Refusal {

@@ -7,11 +7,16 @@ use mathlib.Core.Bool.{true, false, true≢false}
 use mathlib.Core.Path.{_≡_, refl, ap}
 use lib.Dec.{leb·suc-suc}
 use lib.IntN.{ℤ, pos, negsuc, negℤ, natAbs, _-ℤ_}
-use lib.Signed.{ltZ}
+use lib.Signed.{ltZ, mag}
 use mir.Syntax.{w64}
-use mir.Val.{SFits}
+use mir.Val.{SFits, toZ, ofZ, hbits}
+use mir.ValLaws.{toZ-ofZ}
 use borrow.Author.Tests.{leb-true, ltb-true}
 use Rattle.columns.specs.Column.{fitsColumn}
+
+-- an i64 is what its bits say
+pub told : (z : ℤ) → mag z < 2 ^ hbits w64 → toZ w64 (ofZ w64 z) ≡ z
+told z h = toZ-ofZ w64 z (record { sfits = h })
 
 pub negated : (z : ℤ) → ltZ z (pos 0) ≡ true → pos 0 -ℤ z ≡ pos (natAbs z)
 negated (pos n) h = absurd (not-suc-le-zero (ltb-true n 0 h))

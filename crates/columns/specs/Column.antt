@@ -66,15 +66,3 @@ readBytes bytes = cond (sameBytes (column (decode bytes)) bytes) (Number (decode
 -- what the ten bytes at an offset are; fewer than ten are malformed, since no column is shorter
 unfoldable pub readAt : List ℕ → ℕ → Column
 readAt bytes at = readBytes (take 10 (drop at bytes))
-
--- the bytes with a number's column at an offset
-unfoldable pub putAt : List ℕ → ℕ → ℤ → List ℕ
-putAt bytes at z = take at bytes ++ column z ++ drop (at + 10) bytes
-
--- whether ten bytes stand at an offset and the number fits them
-unfoldable pub canPut : List ℕ → ℕ → ℤ → Bool
-canPut bytes at z = leb (at + 10) (length bytes) && fitsColumn z
-
--- the bytes after an attempt to put a number's column at an offset
-unfoldable pub afterPut : List ℕ → ℕ → ℤ → List ℕ
-afterPut bytes at z = cond (canPut bytes at z) (putAt bytes at z) bytes

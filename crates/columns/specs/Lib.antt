@@ -1,2 +1,3 @@
 pub mod Column
+pub mod Line
 pub mod Promises

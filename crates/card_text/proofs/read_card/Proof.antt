@@ -14,7 +14,7 @@ use Rattle.curve.proofs.Accepted.{number-accepted, or-split}
 use Rattle.card_text.specs.Card.{rowAt, cardLength}
 use Rattle.card_text.specs.Reading.{rectAt, decoded, headerRefusal, rowsRefusal, cardRefusal}
 use Rattle.card_text.proofs.ReadingAnswer.{first-line, card-first, card-later, read-refused, read-accepted}
-use Rattle.card_text.proofs.ClampedCurve.{refusal-clamped, curve-clamped}
+use Rattle.card_text.proofs.LimitedCurve.{refusal-limited, curve-limited}
 use Rattle.card_text.proofs.RowsRead.{heldAt}
 use Rattle.card_text.proofs.read_card.Statement.{statement}
 use Rattle.card_text.proofs.read_card.Tie as tie
@@ -62,11 +62,11 @@ made c =
 
 held-refusal : (bytes : List ℕ) → decoded bytes .degree ≤ maxDegree → curveRefusal (heldCurve bytes) ≡ curveRefusal (decoded bytes)
 unfolding decoded
-held-refusal bytes few = refusal-clamped (decoded bytes .degree) (λ k. rectAt bytes (rowAt k)) few
+held-refusal bytes few = refusal-limited (decoded bytes .degree) (λ k. rectAt bytes (rowAt k)) few
 
 held-accepted : (bytes : List ℕ) → decoded bytes .degree ≤ maxDegree → curveRefusal (decoded bytes) .number ≡ 0 → heldCurve bytes ≡ decoded bytes
 unfolding decoded
-held-accepted bytes few h = curve-clamped (decoded bytes .degree) (λ k. rectAt bytes (rowAt k)) few (number-accepted (decoded bytes) h)
+held-accepted bytes few h = curve-limited (decoded bytes .degree) (λ k. rectAt bytes (rowAt k)) few (number-accepted (decoded bytes) h)
 
 curve-refusal-requires : tie.Need-curve-refusal-requires
 curve-refusal-requires c κs = search needs

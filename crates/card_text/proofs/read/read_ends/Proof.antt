@@ -6,8 +6,8 @@ use Rattle.curve.specs.declared.Refusal.{Refusal}
 use Rattle.curve.specs.Refusals.{_orElse_}
 use Rattle.curve.proofs.Machine.{told as told32}
 use Rattle.card_text.specs.Reading.{endsRefusal, intervalAt}
-use Rattle.card_text.specs.Inner.{clamped, clampedEnds}
-use Rattle.card_text.proofs.Clamped.{told}
+use Rattle.card_text.specs.Inner.{limited, limitedEnds}
+use Rattle.columns.proofs.Signed.{told}
 use borrow.Author.Needs.{needs}
 use Rattle.card_text.proofs.read.read_ends.Statement.{statement}
 use Rattle.card_text.proofs.read.read_ends.Tie as tie
@@ -31,13 +31,13 @@ side-of-requires-2 : tie.Need-side-of-requires-2
 side-of-requires-2 c κs = search needs
 
 returns : tie.Need-returns
-unfolding endsRefusal intervalAt clampedEnds
+unfolding endsRefusal intervalAt limitedEnds
 returns c =
     let r = c .before .before .before .before in
     let second = r .before .read-entry2 in
     let first = r .before .before .read-entry in
-    let e = c .before .before .side-of .ensures ∙ ap clamped (told (first .result .value) (c .before .before .before .struct-told .given .1 .0 .1) ∙ first .ensures .1) in
-    let f = c .side-of2 .ensures ∙ ap clamped (told (second .result .value) (c .before .struct-told2 .given .1 .0 .1) ∙ second .ensures .1) in (
+    let e = c .before .before .side-of .ensures ∙ ap limited (told (first .result .value) (c .before .before .before .struct-told .given .1 .0 .1) ∙ first .ensures .1) in
+    let f = c .side-of2 .ensures ∙ ap limited (told (second .result .value) (c .before .struct-told2 .given .1 .0 .1) ∙ second .ensures .1) in (
       r .first-of .ensures ∙ ap₂ (λ (a b : Refusal). a orElse b) (first .ensures .0) (second .ensures .0),
       ap₂ (λ (a b : ℤ). record { low = a; high = b }) (told32 (c .before .before .side-of .result) (c .before .before .side-of .ok) ∙ e) (told32 (c .side-of2 .result) (c .side-of2 .ok) ∙ f),
     )

@@ -2,7 +2,7 @@
 -- Assumes nothing.
 use mathlib.Core.Path.{sym, _∙_}
 use borrow.Author.Needs.{needs}
-use Rattle.card_text.proofs.Clamped.{told}
+use Rattle.columns.proofs.Signed.{told}
 use Rattle.card_text.proofs.Entry.{entry-number, entry-malformed}
 use Rattle.card_text.proofs.read.read_entry.Statement.{statement}
 use Rattle.card_text.proofs.read.read_entry.Tie as tie

@@ -7,7 +7,7 @@ use Rattle.curve.specs.declared.Refusal.{Refusal}
 use Rattle.curve.specs.Refusals.{_orElse_}
 use Rattle.card_text.specs.Reading.{numberAt, degreeOf}
 use Rattle.card_text.specs.Inner.{sizeRefusal}
-use Rattle.card_text.proofs.Clamped.{told}
+use Rattle.columns.proofs.Signed.{told}
 use Rattle.card_text.proofs.Header.{header-short, header-long}
 use borrow.Author.Needs.{needs}
 use Rattle.card_text.proofs.read.read_header.Statement.{statement}

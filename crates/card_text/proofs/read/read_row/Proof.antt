@@ -5,7 +5,7 @@ use Rattle.curve.specs.declared.Interval.{Interval}
 use Rattle.curve.specs.declared.Refusal.{Refusal}
 use Rattle.curve.specs.Refusals.{_orElse_}
 use Rattle.card_text.specs.Reading.{rowRefusal, rectAt}
-use Rattle.card_text.specs.Inner.{clampedRect}
+use Rattle.card_text.specs.Inner.{limitedRect}
 use borrow.Author.Needs.{needs}
 use Rattle.card_text.proofs.read.read_row.Statement.{statement}
 use Rattle.card_text.proofs.read.read_row.Tie as tie
@@ -32,7 +32,7 @@ first-of-requires-2 : tie.Need-first-of-requires-2
 first-of-requires-2 c κs = search needs
 
 returns : tie.Need-returns
-unfolding rowRefusal rectAt clampedRect
+unfolding rowRefusal rectAt limitedRect
 returns c =
     let f = c .before .before .before in
     let second = f .before .before .read-ends2 in

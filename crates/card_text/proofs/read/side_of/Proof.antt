@@ -8,7 +8,7 @@ use mir.Val.{toZ, ofZ}
 use mir.ValLaws.{toZ-ofZ}
 use Rattle.curve.specs.Inner.{Side}
 use Rattle.curve.proofs.Sides.{side-fits, side-back}
-use Rattle.card_text.proofs.Clamped.{tested-side, within, below, above, clamped-in, clamped-out}
+use Rattle.card_text.proofs.Limited.{tested-side, within, below, above, limited-in, limited-out}
 use Rattle.card_text.proofs.read.side_of.Statement.{statement}
 use Rattle.card_text.proofs.read.side_of.Tie as tie
 
@@ -34,7 +34,7 @@ returns : tie.Need-returns
 returns c =
     let z = c .before .before .args .value in
     let e = value (c .before .before) in
-    rw (e, side-back (side c)) (sym (clamped-in z (within z (rw e at (c .before .if1 .taken)) (rw e at (c .if2 .taken)))))
+    rw (e, side-back (side c)) (sym (limited-in z (within z (rw e at (c .before .if1 .taken)) (rw e at (c .if2 .taken)))))
 
 add-result : tie.Need-add-result
 add-result c = search needs
@@ -43,7 +43,7 @@ returns-2 : tie.Need-returns-2
 returns-2 c =
     let z = c .before .args .value in
     let e = value (c .before) in
-    sym (clamped-out z (⊎-elim (λ w. above z (rw e at (w .0 .taken)) (rw e at (w .1 .left))) (λ w. below z (rw e at (w .left))) (c .if1 .came)))
+    sym (limited-out z (⊎-elim (λ w. above z (rw e at (w .0 .taken)) (rw e at (w .1 .left))) (λ w. below z (rw e at (w .left))) (c .if1 .came)))
 
 pub side-of-spec : {M : Type 1} → statement M
 side-of-spec = tie.close (tie.spec cast-if1 cast-if2 cast-result returns add-result returns-2)

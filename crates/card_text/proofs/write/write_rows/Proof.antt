@@ -1,20 +1,23 @@
 -- `write_rows` meets its contract. The invariant: the lines of k rectangles stand behind the first line. The measure is what is left of them.
 -- Assumes nothing.
 use mathlib.Core.Path.{_≡_, sym, ap, _∙_}
+use mathlib.Core.List.{List}
 use Prim.Native.Nat.{ℕ, _+_, _*_, _-_, _≤_}
 use native.Mathlib.Numerals.{add-one}
 use native.Mathlib.Omega.{arith}
+use lib.IntN.{ℤ}
 use lib.ListN.{length}
+use Rattle.columns.specs.Line.{placed, afterLine}
+use Rattle.columns.proofs.Placed.{placed-none, placed-then}
 use Rattle.curve.specs.Limits.{maxDegree}
 use Rattle.curve.specs.declared.Curve.{Curve}
 use Rattle.curve.specs.Curve.{point}
 use Rattle.curve.specs.Refusals.{Accepted}
 use Rattle.curve.specs.Inner.{Held}
 use Rattle.curve.proofs.Accepted.{accepted-ready}
-use Rattle.card_text.specs.Card.{row, rows, headerLength, rowLength}
-use Rattle.card_text.specs.Inner.{placed}
-use Rattle.card_text.proofs.Fitting.{row-long, rows-long}
-use Rattle.card_text.proofs.Placed.{placed-none, placed-then}
+use Rattle.card_text.specs.Card.{row, rows, headerLength, rowLength, rowAt}
+use Rattle.card_text.proofs.Fitting.{row-put, row-long, rows-long}
+use borrow.Author.Needs.{needs}
 use Rattle.card_text.proofs.write.write_rows.Statement.{statement}
 use Rattle.card_text.proofs.write.write_rows.Tie as tie
 
@@ -44,20 +47,23 @@ mul-p c = let s = c .before .before .before in omega (arith, few (s .args .t2) (
 element-copy-out-p : tie.Need-element-copy-out-p Inv-loop μ-loop
 element-copy-out-p c = let s = c .before .before .before in omega (arith, few (s .args .t2) (s .pre .0))
 
-mul-write-row : tie.Need-mul-write-row Inv-loop μ-loop
-mul-write-row c = let s = c .before .before .before .before .before in omega (arith, few (s .args .t2) (s .pre .0))
+sides-requires : tie.Need-sides-requires Inv-loop μ-loop
+sides-requires c κs = tt
 
-add-write-row : tie.Need-add-write-row Inv-loop μ-loop
-add-write-row c = let s = c .before .before .before .before .before in omega (arith, few (s .args .t2) (s .pre .0))
+mul-put-line : tie.Need-mul-put-line Inv-loop μ-loop
+mul-put-line c = let s = c .before .before .before .before .before .before in omega (arith, few (s .args .t2) (s .pre .0))
 
-write-row-requires : tie.Need-write-row-requires Inv-loop μ-loop
-write-row-requires c κs =
-    let l = c .before .before .before in
-    let s = l .before .before in
-    (held (s .args .t2) (s .pre .0) (l .loop .k) (omega (arith, c .before .before .loop-test .taken)), omega (arith, s .pre .1, l .loop .inv .1, c .before .before .loop-test .taken))
+add-put-line : tie.Need-add-put-line Inv-loop μ-loop
+add-put-line c = let s = c .before .before .before .before .before .before in omega (arith, few (s .args .t2) (s .pre .0))
+
+slice-aggregate-put-line : tie.Need-slice-aggregate-put-line Inv-loop μ-loop
+slice-aggregate-put-line c = search needs
+
+put-line-requires : tie.Need-put-line-requires Inv-loop μ-loop
+put-line-requires c κs = tt
 
 add-k : tie.Need-add-k Inv-loop μ-loop
-add-k c = let s = c .before .before .before .before .before .before .before .before in omega (arith, few (s .args .t2) (s .pre .0))
+add-k c = let s = c .before .before .before .before .before .before .before .before .before .before in omega (arith, few (s .args .t2) (s .pre .0))
 
 loop-less : tie.Need-loop-less Inv-loop μ-loop
 loop-less c = omega arith
@@ -66,15 +72,22 @@ loop-again : tie.Need-loop-again Inv-loop μ-loop
 unfolding rows
 loop-again c =
     let w = c .before .before in
-    let l = w .before .before .before .before in
+    let t = w .before .before .before in
+    let l = t .before .before .before in
     let s = l .before .before in
     let P = point (s .args .t2) in
     let k = l .loop .k in
-    let in? : k ≤ s .args .t2 .degree = omega (arith, w .before .before .before .loop-test .taken) in
-    let size : length (rows k P) ≡ rowLength * k = rows-long k P (λ i h. row-long (held (s .args .t2) (s .pre .0) i (omega arith))) in (
+    let out = s .args .out .now in
+    let in? : k ≤ s .args .t2 .degree = omega (arith, t .before .before .loop-test .taken) in
+    let ready = held (s .args .t2) (s .pre .0) in
+    let size : length (rows k P) ≡ rowLength * k = rows-long k P (λ i h. row-long (ready i (omega arith))) in
+    let row-in : w .put-line .last .0 ≡ placed (l .loop .out) (rowAt k) (row (P k)) =
+    w .put-line .ensures .1
+    ∙ ap (λ (zs : List ℤ). afterLine (l .loop .out) (rowAt k) zs) (t .sides .ensures)
+    ∙ row-put (l .loop .out) (rowAt k) (ready k in?) (omega (arith, s .pre .1, l .loop .inv .1)) in (
       omega arith,
-      w .write-row .kept .0 ∙ l .loop .inv .1,
-      rw add-one (w .write-row .ensures ∙ placed-then (s .args .out .now) headerLength (rowLength * k) (rows k P) (row (P k)) (l .loop .out) size (omega (arith, s .pre .1)) (l .loop .inv .2)),
+      w .put-line .kept .0 ∙ l .loop .inv .1,
+      rw add-one (row-in ∙ placed-then out headerLength (rowLength * k) (rows k P) (row (P k)) (l .loop .out) size (omega (arith, s .pre .1)) (l .loop .inv .2)),
     )
 
 same-length : tie.Need-same-length Inv-loop μ-loop
@@ -97,9 +110,11 @@ write-rows-spec =
     loop-holds
     mul-p
     element-copy-out-p
-    mul-write-row
-    add-write-row
-    write-row-requires
+    sides-requires
+    mul-put-line
+    add-put-line
+    slice-aggregate-put-line
+    put-line-requires
     add-k
     loop-less
     loop-again
