@@ -1,4 +1,4 @@
--- Numbers that are written: a side as an i64, and sides, counts and small numbers that fit a column.
+-- Numbers that are written: counts and small numbers fit a column, and come back from their bits.
 -- Assumes nothing.
 use mathlib.Core.Path.{_≡_, ap, _∙_}
 use mathlib.Core.Bool.{true}
@@ -7,44 +7,18 @@ use Prim.Native.Nat.{ℕ, _+_, _≤_, _<_, _^_, min}
 use native.Mathlib.Omega.{arith}
 use borrow.Author.Tests.{le-leb}
 use lib.IntN.{ℤ, pos}
-use lib.Signed.{mag}
-use mir.Syntax.{w32, w64}
-use mir.Val.{SFits, toZ, ofZ, hbits}
+use mir.Syntax.{w64}
+use mir.Val.{toZ, ofZ}
 use mir.ValLaws.{toZ-ofZ}
-use Rattle.rational.specs.Rounding.{down, up}
 use Rattle.columns.specs.Column.{fitsColumn}
-use Rattle.curve.specs.declared.Rect.{Rect}
-use Rattle.curve.specs.Rect.{resistance, reactance}
-use Rattle.curve.specs.Inner.{Held}
-use Rattle.curve.proofs.Machine.{told}
-use Rattle.curve.proofs.Sides.{wide}
-use Rattle.card_text.proofs.Fitting.{side-fits-column}
-use Rattle.replay_steps.specs.Line.{allFit, largest, added, capped}
-use Rattle.replay_steps.specs.Answer.{sidesThen}
-use Rattle.replay_steps.proofs.Lines.{fit-none, fit-more}
-
--- ---- an i32 as an i64
-
-module _ (z : ℤ) (h : mag z < 2 ^ hbits w32) where
-  pub widens : SFits w64 (toZ w32 (ofZ w32 z))
-  widens = rw (told z h) (wide (record { sfits = h }))
-
-  pub widened : toZ w64 (ofZ w64 (toZ w32 (ofZ w32 z))) ≡ z
-  widened = toZ-ofZ w64 (toZ w32 (ofZ w32 z)) widens ∙ told z h
+use Rattle.columns.specs.Line.{allFit}
+use Rattle.replay_steps.specs.Counts.{largest, added, capped}
+use Rattle.columns.proofs.Lines.{fit-none, fit-more}
 
 -- ---- what fits a column
 
 pub fit-one : (z : ℤ) → fitsColumn z ≡ true → allFit (z ∷ []) ≡ true
 fit-one z h = fit-more z [] h fit-none
-
-pub sides-fit : (p : Rect) → Held p → allFit (sidesThen p []) ≡ true
-sides-fit p held =
-    let r = held .at resistance in
-    let x = held .at reactance in
-    fit-more _ _ (side-fits-column (p .resistance .low) (r .at down))
-    (fit-more _ _ (side-fits-column (p .resistance .high) (r .at up))
-    (fit-more _ _ (side-fits-column (p .reactance .low) (x .at down))
-    (fit-one (p .reactance .high) (side-fits-column (p .reactance .high) (x .at up)))))
 
 pub number-fits : (n : ℕ) → n ≤ largest → fitsColumn (pos n) ≡ true
 unfolding fitsColumn

@@ -3,7 +3,7 @@
 use mathlib.Core.Path.{_≡_, refl, sym, ap, subst, _∙_}
 use mathlib.Core.Bool.{true}
 use mathlib.Core.List.{List, [], _∷_, _++_, append-assoc, append-nil}
-use Prim.Native.Nat.{ℕ, _+_, _≤_, _<_, _^_}
+use Prim.Native.Nat.{ℕ, _≤_, _<_, _^_}
 use native.Mathlib.Omega.{arith}
 use borrow.Author.Tests.{eq-eqb, ne-eqb}
 use lib.IntN.{ℤ, pos}
@@ -14,10 +14,12 @@ use Rattle.curve.specs.declared.Refusal.{Refusal}
 use Rattle.replay_steps.specs.declared.Case.{Case}
 use Rattle.replay_steps.specs.declared.answers.Reply.{Reply}
 use Rattle.replay_steps.specs.declared.numbers.Numbers.{Numbers}
-use Rattle.replay_steps.specs.Line.{allFit, capacity, largest, capped}
+use Rattle.columns.specs.Line.{allFit}
+use Rattle.replay_steps.specs.Counts.{largest, capped}
+use Rattle.replay_steps.specs.Answer.{capacity}
 use Rattle.replay_steps.specs.Answer.{Answer, refusing, answering}
 use Rattle.replay_steps.specs.Inner.{listed, noNumbers, Grown, Replied}
-use Rattle.replay_steps.proofs.Lines.{fit-more}
+use Rattle.columns.proofs.Lines.{fit-more}
 use Rattle.replay_steps.proofs.Fitting.{as-signed, fit-one, number-fits, capped-fits}
 
 -- nothing more, and more behind what there is more

@@ -2,7 +2,7 @@
 -- Assumes nothing.
 use mathlib.Core.Path.{_≡_, refl, sym, ap, subst, _∙_}
 use mathlib.Core.Bool.{Bool, true, false, cond}
-use mathlib.Core.List.{List, [], _∷_}
+use mathlib.Core.List.{List, [], _∷_, _++_}
 use Prim.Native.Nat.{ℕ, _+_, min}
 use native.Mathlib.Omega.{arith}
 use borrow.Author.Tests.{eq-eqb}
@@ -14,11 +14,12 @@ use Rattle.curve.specs.declared.Evaluation.{Evaluation}
 use Rattle.curve.specs.Refusals.{AcceptedAt}
 use Rattle.curve.specs.Calls.{evaluated}
 use Rattle.curve.proofs.Answers.{evaluated-accepted}
+use Rattle.card_text.specs.Card.{sides}
 use Rattle.ledger.specs.Ledger.{Ledger, Call, reading, cut, raising, left, right, opened, refused, entered, after, refusalOf, answerOf, leaves}
 use Rattle.ledger.proofs.Demand.{Kept, opened-kept, same-refusal, after-kept}
 use Rattle.replay_steps.specs.declared.Case.{Case}
-use Rattle.replay_steps.specs.Line.{largest, added, capped}
-use Rattle.replay_steps.specs.Answer.{sidesThen, refusing, evaluation, subdivision, elevation}
+use Rattle.replay_steps.specs.Counts.{largest, added, capped}
+use Rattle.replay_steps.specs.Answer.{refusing, evaluation, subdivision, elevation}
 use Rattle.replay_steps.specs.Promises.{answerTo, caseAfter, curveAfter, ledgerAfter, Follows, KeepsLedger}
 
 -- the sum after an accepted call
@@ -78,7 +79,7 @@ module _ (s : Case) (l : Ledger) (degrees : s .curve .degree ≡ l .degree) (sum
 
 -- the number shown is the sum with the degree
 shows : (c : Curve) (l : Ledger) (s : Case) → Kept c l (s .curve) → s .sum ≡ min (l .sum) largest → (num den : ℕ) → AcceptedAt num den →
-    evaluation s num den .numbers ≡ pos 0 ∷ sidesThen (evaluated (s .curve) num den .load) (capped (l .sum + l .degree) ∷ [])
+    evaluation s num den .numbers ≡ pos 0 ∷ (sides (evaluated (s .curve) num den .load) ++ (capped (l .sum + l .degree) ∷ []))
 unfolding evaluation
 shows c l s kept sums num den at =
     let none : evaluated (s .curve) num den .refusal .number ≡ 0 = ap (λ (e : Evaluation). e .refusal .number) (evaluated-accepted (s .curve) num den (kept .accepted) at) in
@@ -93,7 +94,7 @@ follows c [] now l s kept e sums =
     record {
       curve = e;
       sum = sums;
-      shown = subst (λ (x : Curve). (num den : ℕ) → AcceptedAt num den → evaluation s num den .numbers ≡ pos 0 ∷ sidesThen (evaluated x num den .load) (capped (l .sum + l .degree) ∷ [])) e
+      shown = subst (λ (x : Curve). (num den : ℕ) → AcceptedAt num den → evaluation s num den .numbers ≡ pos 0 ∷ (sides (evaluated x num den .load) ++ (capped (l .sum + l .degree) ∷ []))) e
           (shows c l s (subst (Kept c l) (sym e) kept) sums);
     }
 follows c (call ∷ calls) now l s kept e sums =

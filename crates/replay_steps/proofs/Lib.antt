@@ -1,7 +1,6 @@
 -- Laws of the definitions in specs/, and the promises.
 pub mod Ranges
 pub mod Requests
-pub mod Lines
 pub mod Fitting
 pub mod Points
 pub mod Gathered

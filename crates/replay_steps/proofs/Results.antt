@@ -2,8 +2,8 @@
 -- Assumes nothing.
 use mathlib.Core.Path.{_≡_, refl, sym, ap, subst, _∙_}
 use mathlib.Core.Bool.{Bool, true, false}
-use mathlib.Core.List.{[], _∷_, _++_}
-use Prim.Native.Nat.{ℕ, _+_, _≤_}
+use mathlib.Core.List.{_∷_, _++_}
+use Prim.Native.Nat.{ℕ, _≤_}
 use native.Mathlib.Omega.{arith}
 use borrow.Author.Tests.{eqb-true}
 use lib.Dec.{eqb}
@@ -29,11 +29,11 @@ use Rattle.curve.proofs.Accepted.{accepted-facts, number-accepted, call-accepte
 use Rattle.curve.proofs.Answers.{evaluated-accepted, evaluated-refusal, subdivided-refused, subdivided-refusal, elevated-refused, elevated-refusal, bounded-refusal}
 use Rattle.curve.proofs.Pieces.{load-held, good-pieces, good-raised}
 use Rattle.curve.proofs.BoundsLeast.{least-bounds}
-use Rattle.card_text.proofs.Fitting.{degree-fits-column}
-use Rattle.replay_steps.specs.Line.{allFit}
-use Rattle.replay_steps.specs.Answer.{sidesThen, sidesOf}
-use Rattle.replay_steps.proofs.Lines.{fit-more, fit-append}
-use Rattle.replay_steps.proofs.Fitting.{sides-fit}
+use Rattle.card_text.specs.Card.{sides}
+use Rattle.card_text.proofs.Fitting.{degree-fits-column, sides-fit}
+use Rattle.columns.specs.Line.{allFit}
+use Rattle.replay_steps.specs.Answer.{sidesOf}
+use Rattle.columns.proofs.Lines.{fit-more, fit-append}
 use Rattle.replay_steps.proofs.Points.{curve-fits}
 
 abbrev numberOf : Refusal → ℕ
@@ -57,10 +57,10 @@ degree-fits c a = degree-fits-column (c .degree) (degree-few c a)
 -- ---- the load
 
 module _ (c : Curve) (num den : ℕ) {e : Evaluation} (same : e ≡ evaluated c num den) where
-  pub load-fits : e .refusal .number ≡ 0 → allFit (sidesThen (e .load) []) ≡ true
+  pub load-fits : e .refusal .number ≡ 0 → allFit (sides (e .load)) ≡ true
   load-fits h =
       let (a, at) = call-accepted c num den (sym (ap numberOf (ap (λ (x : Evaluation). x .refusal) same ∙ evaluated-refusal c num den)) ∙ h) in
-      sides-fit (e .load) (subst (λ (x : Evaluation). Held (x .load)) (sym (same ∙ evaluated-accepted c num den a at)) (load-held c num den a at))
+      sides-fit (subst (λ (x : Evaluation). Held (x .load)) (sym (same ∙ evaluated-accepted c num den a at)) (load-held c num den a at))
 
 -- ---- the two pieces
 
@@ -135,5 +135,5 @@ bounded-held c h =
     let (holds, least) = least-bounds c a in
     between-sides (f .inRange 0 (omega arith)) (holds 0 (omega arith)) (least widest (λ k l. in-widest (f .inRange k l)))
 
-pub bounds-fit : (c : Curve) {e : Enclosure} → e ≡ bounded c → e .refusal .number ≡ 0 → allFit (sidesThen (e .rect) []) ≡ true
-bounds-fit c same h = rw same (sides-fit (bounded c .rect) (bounded-held c (rw same at h)))
+pub bounds-fit : (c : Curve) {e : Enclosure} → e ≡ bounded c → e .refusal .number ≡ 0 → allFit (sides (e .rect)) ≡ true
+bounds-fit c same h = rw same (sides-fit (bounded-held c (rw same at h)))

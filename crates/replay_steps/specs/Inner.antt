@@ -6,13 +6,14 @@ use mathlib.Core.List.{List, _++_}
 use Prim.Native.Nat.{ℕ, _+_, _≤_}
 use lib.IntN.{ℤ, pos}
 use lib.ListN.{length, take, replicate}
+use Rattle.columns.specs.Line.{allFit}
 use Rattle.replay_steps.specs.declared.Case.{Case}
 use Rattle.replay_steps.specs.declared.Stepped.{Stepped}
 use Rattle.replay_steps.specs.declared.Status.the-variants.{Done}
 use Rattle.replay_steps.specs.declared.answers.Reply.{Reply}
 use Rattle.replay_steps.specs.declared.numbers.Numbers.{Numbers}
-use Rattle.replay_steps.specs.Line.{allFit, capacity, added}
-use Rattle.replay_steps.specs.Answer.{Answer}
+use Rattle.replay_steps.specs.Counts.{added}
+use Rattle.replay_steps.specs.Answer.{Answer, capacity}
 use Rattle.replay_steps.specs.Step.{Effect, stepped, written}
 
 -- the numbers that are gathered

@@ -2,21 +2,20 @@
 -- Assumes nothing.
 use mathlib.Core.Path.{_≡_}
 use mathlib.Core.Bool.{true, false}
-use mathlib.Core.List.{List, [], _∷_}
+use mathlib.Core.List.{List, [], _∷_, _++_}
 use Prim.Native.Nat.{ℕ, _+_, _≤_, _<_, min}
 use lib.IntN.{pos}
 use lib.ListN.{length, take}
 use Rattle.curve.specs.declared.Curve.{Curve}
-use Rattle.curve.specs.Limits.{maxDegree}
 use Rattle.curve.specs.Refusals.{Accepted, AcceptedAt}
 use Rattle.curve.specs.Calls.{evaluated}
-use Rattle.card_text.specs.Card.{cardLength}
+use Rattle.card_text.specs.Card.{sides, longestCard}
 use Rattle.ledger.specs.Ledger.{Ledger, Call, reading, cut, raising, left, right, opened, after, leaves}
 use Rattle.replay_steps.specs.declared.Case.{Case}
 use Rattle.replay_steps.specs.declared.Session.{Session}
 use Rattle.replay_steps.specs.declared.Status.the-variants.{Done}
-use Rattle.replay_steps.specs.Line.{largest, capped}
-use Rattle.replay_steps.specs.Answer.{Answer, sidesThen, evaluation, subdivision, elevation}
+use Rattle.replay_steps.specs.Counts.{largest, capped}
+use Rattle.replay_steps.specs.Answer.{Answer, evaluation, subdivision, elevation}
 use Rattle.replay_steps.specs.Step.{effect}
 
 -- ---- the input
@@ -29,7 +28,7 @@ Progress =
 
 -- the bytes that a step looks at: the longest card
 abbrev pub window : ℕ
-window = cardLength maxDegree
+window = longestCard
 
 -- what lies behind those changes nothing
 abbrev pub WindowEnough : Type 0
@@ -63,7 +62,7 @@ pub record Follows (now : Curve) (l : Ledger) (s : Case) : Type 0 where
   pub sum : s .sum ≡ min (l .sum) largest
   pub shown :
       (num den : ℕ) → AcceptedAt num den →
-      evaluation s num den .numbers ≡ pos 0 ∷ sidesThen (evaluated now num den .load) (capped (l .sum + l .degree) ∷ [])
+      evaluation s num den .numbers ≡ pos 0 ∷ (sides (evaluated now num den .load) ++ (capped (l .sum + l .degree) ∷ []))
 
 -- so it is along every list of calls from an accepted curve
 abbrev pub KeepsLedger : Type 0

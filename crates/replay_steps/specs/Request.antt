@@ -10,7 +10,7 @@ use lib.Signed.{leZ}
 use Rattle.columns.specs.declared.Column.{Column}
 use Rattle.columns.specs.declared.Column.the-variants.{Number, Malformed}
 use Rattle.columns.specs.Column.{readAt}
-use Rattle.card_text.specs.Card.{newline}
+use Rattle.columns.specs.Line.{newline}
 use Rattle.replay_steps.specs.declared.fields.Word.{Word}
 use Rattle.replay_steps.specs.declared.fields.Side.{Side}
 use Rattle.replay_steps.specs.declared.fields.Ends.{Ends}

@@ -6,6 +6,7 @@ use Prim.Native.Nat.{ℕ}
 use lib.Dec.{leb, ltb, eqb}
 use lib.IntN.{pos}
 use lib.ListN.{length, take, drop}
+use Rattle.columns.specs.Line.{line, lineLength}
 use Rattle.curve.specs.declared.Refusal.{Refusal}
 use Rattle.curve.specs.Limits.{maxDegree}
 use Rattle.curve.specs.Curve.{zeroCurve}
@@ -19,9 +20,9 @@ use Rattle.replay_steps.specs.declared.Status.the-variants.{Done, Ended,
 use Rattle.replay_steps.specs.declared.Stepped.{Stepped}
 use Rattle.replay_steps.specs.declared.request.Request.{Request}
 use Rattle.replay_steps.specs.declared.request.Request.the-variants.{Invalid, Close, Evaluate, Subdivide, Elevate, Bounds, Search}
-use Rattle.replay_steps.specs.Line.{line, lineLength, capacity, added, capped}
+use Rattle.replay_steps.specs.Counts.{added, capped}
 use Rattle.replay_steps.specs.Request.{wordAt, requestOf}
-use Rattle.replay_steps.specs.Answer.{Answer, answering, evaluation, subdivision, elevation, enclosure, verdict}
+use Rattle.replay_steps.specs.Answer.{Answer, capacity, answering, evaluation, subdivision, elevation, enclosure, verdict}
 
 -- what a step does: the session that it leaves, the bytes that it takes, what it met, and the text that it writes
 pub record Effect : Type 0 where

@@ -3,10 +3,11 @@ ghost use mathlib.Core.Path.{_≡_};
 ghost use mathlib.Core.Bool.{true};
 ghost use Prim.Native.Nat.{_<_};
 ghost use lib.ListN.{length};
+ghost use Rattle.columns.specs.Line.{allFit};
 ghost use Rattle.search.specs.Verdict.{report, reported};
 ghost use Rattle.ledger.specs.Ledger.{kept};
-ghost use Rattle.replay_steps.specs.Line.{capacity, allFit};
 ghost use Rattle.replay_steps.specs.Answer.{
+  capacity,
   answering,
   evaluation,
   pieceOf,
@@ -24,7 +25,7 @@ use crate::numbers::append;
 use crate::numbers::append_points;
 use crate::numbers::capped;
 use crate::numbers::numbers_of;
-use crate::numbers::sides;
+use card_text::sides;
 use curve::Curve;
 use curve::Rect;
 use curve::Refusal;

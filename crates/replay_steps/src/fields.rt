@@ -4,11 +4,9 @@ ghost use mathlib.Core.Bool.{_&&_};
 ghost use Prim.Native.Nat.{_≤_};
 ghost use Rattle.replay_steps.specs.Request.{wordOf, sideOf, wordAt, sideAt, endsAt, endsLine};
 use columns::Column;
+use columns::NEWLINE;
 use columns::read_column;
 use curve::Interval;
-
-// The byte that ends a line.
-pub const NEWLINE: u8 = 10;
 
 // A number from 0 to 4,294,967,295; value 0 where it is none.
 pub struct Word {

@@ -1,10 +1,9 @@
 // A list of calls from cards, one step at a time: a card or a call line is taken from the front of some bytes, and its answer is written.
 ghost use mathlib.Core.Path.{_≡_};
 ghost use mathlib.Core.Bool.{true};
-ghost use Prim.Native.Nat.{_≤_};
+ghost use Prim.Native.Nat.{_*_, _≤_, _<_};
 ghost use lib.ListN.{length};
-ghost use Rattle.card_text.specs.Inner.{placed};
-ghost use Rattle.replay_steps.specs.Line.{line};
+ghost use Rattle.columns.specs.Line.{placed, line, allFit};
 ghost use Rattle.replay_steps.specs.Step.{
   started,
   idle,
@@ -26,7 +25,6 @@ mod answers;
 mod fields;
 mod numbers;
 mod request;
-mod write;
 
 use answers::Reply;
 use answers::answering;
@@ -35,6 +33,9 @@ use answers::enclosure;
 use answers::evaluation;
 use answers::subdivision;
 use answers::verdict;
+use card_text::LONGEST_CARD;
+use card_text::card_length;
+use columns::put_line;
 use curve::Curve;
 use curve::Interval;
 use curve::MAX_DEGREE;
@@ -48,12 +49,6 @@ use numbers::capped;
 use numbers::numbers_of;
 use request::Request;
 use request::request_of;
-use write::write_line;
-
-// The bytes of a card's first line, and of each other line.
-const HEADER_LENGTH: usize = 11;
-
-const ROW_LENGTH: usize = 41;
 
 // The bytes of a line of one, of three and of seven columns.
 const LINE_OF_1: usize = 11;
@@ -63,7 +58,7 @@ const LINE_OF_3: usize = 31;
 const LINE_OF_7: usize = 71;
 
 // The bytes that a step looks at: the longest card.
-pub const WINDOW: usize = HEADER_LENGTH + ROW_LENGTH * PLACES;
+pub const WINDOW: usize = LONGEST_CARD;
 
 // The bytes that the longest answer takes: a cut at the highest degree.
 pub const LINE_ROOM: usize = 10 * CAPACITY + 1;
@@ -145,6 +140,16 @@ fn idle(session: Session, status: Status) -> Stepped
     }
 }
 
+// Writes a line to the front of a buffer that has room for it, and answers its length.
+fn write_line(out: &mut [u8], numbers: &[i64]) -> usize
+    requires { ⌜ allFit (now numbers) ≡ true ⌝ }
+    requires { ⌜ 10 * length (now numbers) < length (now out) ⌝ }
+    ensures { λ r. ⌜ (r ≡ length (line (now (numbers .entry)))) × (now (out .exit) ≡ placed (now (out .entry)) 0 (line (now (numbers .entry)))) ⌝ }
+{
+    put_line(out, 0, numbers);
+    10 * numbers.len() + 1
+}
+
 // A malformed line ends the run: 99 and its offset.
 fn stopped(session: Session, out: &mut [u8]) -> Stepped
     requires { ⌜ lineRoom ≤ length (now out) ⌝ }
@@ -197,9 +202,9 @@ fn card_size(input: &[u8]) -> usize
 {
     let degree = word_at(input, 0).value;
     if degree <= MAX_DEGREE {
-        return HEADER_LENGTH + ROW_LENGTH * (degree as usize + 1);
+        return card_length(degree);
     }
-    HEADER_LENGTH + ROW_LENGTH
+    card_length(0)
 }
 
 // The card at the front of the input.

@@ -1,15 +1,14 @@
 // The numbers of an answer, gathered before its line is written.
 ghost use mathlib.Core.Path.{_≡_};
 ghost use Prim.Native.Nat.{_+_, _*_, _≤_};
-ghost use mathlib.Core.List.{[]};
 ghost use lib.ListN.{length};
 ghost use Rattle.curve.specs.Limits.{maxDegree};
-ghost use Rattle.replay_steps.specs.Line.{capacity, added, capped};
-ghost use Rattle.replay_steps.specs.Answer.{sidesThen, sidesOf};
+ghost use Rattle.replay_steps.specs.Counts.{added, capped};
+ghost use Rattle.replay_steps.specs.Answer.{capacity, sidesOf};
 ghost use Rattle.replay_steps.specs.Inner.{noNumbers, Grown};
+use card_text::sides;
 use curve::Curve;
 use curve::PLACES;
-use curve::Rect;
 
 // The numbers of the longest answer, a cut at the highest degree: a 0, the degree, and the sides of two curves.
 pub const CAPACITY: usize = 2 + 8 * PLACES;
@@ -77,18 +76,6 @@ pub fn append(numbers: Numbers, more: &[i64]) -> Numbers
         values,
         count: count + more.len(),
     }
-}
-
-// A rectangle's four sides.
-pub fn sides(p: Rect) -> [i64; 4]
-    ensures { λ r. ⌜ r ≡ sidesThen p [] ⌝ }
-{
-    [
-        p.resistance.low as i64,
-        p.resistance.high as i64,
-        p.reactance.low as i64,
-        p.reactance.high as i64,
-    ]
 }
 
 // Some numbers, and the sides of a curve's rectangles 0 to n behind them.

@@ -6,7 +6,7 @@ use Prim.Native.Nat.{ℕ}
 use Rattle.replay_steps.specs.declared.Session.{Session}
 use Rattle.replay_steps.specs.declared.Stepped.{Stepped}
 use Rattle.replay_steps.specs.declared.request.Request.{Request}
-use Rattle.replay_steps.specs.Line.{lineLength}
+use Rattle.columns.specs.Line.{lineLength}
 use Rattle.replay_steps.specs.Step.{callStep}
 use Rattle.replay_steps.specs.Inner.{Wrote}
 use Rattle.replay_steps.proofs.Replies.{wrote-answer}

@@ -6,7 +6,7 @@ use mathlib.Core.List.{List, [], _∷_}
 use Prim.Native.Nat.{_<_}
 use native.Mathlib.Omega.{arith}
 use lib.IntN.{ℤ, pos}
-use Rattle.replay_steps.specs.Line.{allFit}
+use Rattle.columns.specs.Line.{allFit}
 use Rattle.replay_steps.specs.Answer.{answering}
 use Rattle.replay_steps.specs.Inner.{noNumbers, Grown, Replied}
 use Rattle.replay_steps.proofs.Fitting.{fit-one, number-fits}

@@ -7,8 +7,9 @@ use native.Mathlib.Omega.{arith}
 use lib.IntN.{ℤ, pos}
 use mir.Syntax.{w64}
 use mir.Val.{toZ, ofZ}
-use Rattle.replay_steps.specs.Line.{allFit, capped}
-use Rattle.replay_steps.proofs.Lines.{fit-more}
+use Rattle.columns.specs.Line.{allFit}
+use Rattle.replay_steps.specs.Counts.{capped}
+use Rattle.columns.proofs.Lines.{fit-more}
 use Rattle.replay_steps.proofs.Fitting.{fit-one, number-fits, capped-fits, capped-back}
 use Rattle.replay_steps.proofs.Replies.{wrote-stop}
 use borrow.Author.Needs.{needs}

@@ -9,7 +9,7 @@ use lib.ListN.{length}
 use lib.Seq.{length-take-le}
 use mir.Syntax.{w64}
 use mir.Val.{toZ, ofZ}
-use Rattle.replay_steps.specs.Line.{capped}
+use Rattle.replay_steps.specs.Counts.{capped}
 use Rattle.replay_steps.specs.Inner.{listed, noNumbers, Grown}
 use Rattle.replay_steps.proofs.Fitting.{as-signed, capped-back}
 use Rattle.replay_steps.proofs.Gathered.{grown-then, where-refused, where-accepted}

@@ -1,11 +1,11 @@
 -- `enclosure` meets its contract.
 -- Assumes nothing.
 use mathlib.Core.Path.{refl, ap, _∙_}
-use mathlib.Core.List.{[]}
 use native.Mathlib.Omega.{arith}
 use lib.ListN.{length}
 use Rattle.curve.specs.declared.Enclosure.{Enclosure}
-use Rattle.replay_steps.specs.Answer.{sidesThen, enclosure}
+use Rattle.card_text.specs.Card.{sides}
+use Rattle.replay_steps.specs.Answer.{enclosure}
 use Rattle.replay_steps.proofs.Results.{bounds-fit}
 use Rattle.replay_steps.proofs.Gathered.{can-answer, same-answer}
 use borrow.Author.Needs.{needs}
@@ -38,7 +38,7 @@ returns c =
     let f = n .before .before in
     let b = f .before in
     same-answer (b .before .before .args .case) (ap (λ (x : Enclosure). x .refusal) (b .bounds .ensures)) refl
-    (n .numbers-of .ensures .values ∙ f .sides .ensures ∙ ap (λ (x : Enclosure). sidesThen (x .rect) []) (b .bounds .ensures)) (c .answering .ensures)
+    (n .numbers-of .ensures .values ∙ f .sides .ensures ∙ ap (λ (x : Enclosure). sides (x .rect)) (b .bounds .ensures)) (c .answering .ensures)
 
 pub enclosure-spec : {M : Type 1} → statement M
 enclosure-spec =

@@ -8,10 +8,11 @@ use lib.IntN.{ℤ}
 use mir.Syntax.{w64}
 use mir.Val.{toZ, ofZ}
 use Rattle.curve.specs.declared.Evaluation.{Evaluation}
-use Rattle.replay_steps.specs.Line.{capped}
-use Rattle.replay_steps.specs.Answer.{sidesThen, evaluation}
+use Rattle.card_text.specs.Card.{sides}
+use Rattle.replay_steps.specs.Counts.{capped}
+use Rattle.replay_steps.specs.Answer.{evaluation}
 use Rattle.replay_steps.specs.Inner.{noNumbers, Grown}
-use Rattle.replay_steps.proofs.Lines.{fit-append}
+use Rattle.columns.proofs.Lines.{fit-append}
 use Rattle.replay_steps.proofs.Fitting.{fit-one, capped-fits, sum-back}
 use Rattle.replay_steps.proofs.Results.{load-fits}
 use Rattle.replay_steps.proofs.Gathered.{grown-then, can-answer, same-answer}
@@ -56,7 +57,7 @@ start n = called n .before .before
 abbrev sum : tie.After-append → ℤ
 sum n = let s = start n .args .case in capped (s .sum + s .curve .degree)
 
-results : (n : tie.After-append) → Grown noNumbers (sidesThen (called n .evaluate .result .load) (sum n ∷ [])) (n .append .result)
+results : (n : tie.After-append) → Grown noNumbers (sides (called n .evaluate .result .load) ++ (sum n ∷ [])) (n .append .result)
 results n =
     let f = n .before .before .before .before in
     let shown : toZ w64 (ofZ w64 (f .before .capped .result)) ≡ sum n =
@@ -68,7 +69,7 @@ answering-requires : tie.Need-answering-requires
 answering-requires c κs =
     let a = start c .args in
     can-answer (called c .evaluate .result .refusal .number) (results c) (omega arith)
-    (λ h. fit-append (sidesThen (called c .evaluate .result .load) []) (sum c ∷ []) (load-fits (a .case .curve) (a .num) (a .den) (called c .evaluate .ensures) h) (fit-one _ (capped-fits (a .case .sum + a .case .curve .degree))))
+    (λ h. fit-append (sides (called c .evaluate .result .load)) (sum c ∷ []) (load-fits (a .case .curve) (a .num) (a .den) (called c .evaluate .ensures) h) (fit-one _ (capped-fits (a .case .sum + a .case .curve .degree))))
 
 returns : tie.Need-returns
 unfolding evaluation
@@ -76,7 +77,7 @@ returns c =
     let n = c .before in
     let e = called n .evaluate .ensures in
     same-answer (start n .args .case) (ap (λ (x : Evaluation). x .refusal) e) refl
-    (results n .values ∙ ap (λ (x : Evaluation). sidesThen (x .load) (sum n ∷ [])) e) (c .answering .ensures)
+    (results n .values ∙ ap (λ (x : Evaluation). sides (x .load) ++ (sum n ∷ [])) e) (c .answering .ensures)
 
 pub evaluation-spec : {M : Type 1} → statement M
 evaluation-spec =

@@ -2,7 +2,7 @@
 -- Assumes nothing.
 use mathlib.Core.Path.{refl}
 use native.Mathlib.Omega.{arith}
-use Rattle.replay_steps.proofs.Lines.{fit-more}
+use Rattle.columns.proofs.Lines.{fit-more}
 use Rattle.replay_steps.proofs.Fitting.{as-signed, fit-one, number-fits}
 use borrow.Author.Needs.{needs}
 use Rattle.replay_steps.proofs.answers.report.Statement.{statement}

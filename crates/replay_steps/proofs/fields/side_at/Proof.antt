@@ -2,7 +2,7 @@
 -- Assumes nothing.
 use mathlib.Core.Path.{sym, ap, _∙_}
 use borrow.Author.Needs.{needs}
-use Rattle.card_text.proofs.Clamped.{told}
+use Rattle.columns.proofs.Signed.{told}
 use Rattle.replay_steps.specs.Request.{sideOf, sideIn, sideAt}
 use Rattle.replay_steps.proofs.fields.side_at.Statement.{statement}
 use Rattle.replay_steps.proofs.fields.side_at.Tie as tie

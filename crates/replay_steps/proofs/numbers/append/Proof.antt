@@ -8,8 +8,8 @@ use native.Mathlib.Omega.{arith}
 use lib.IntN.{ℤ, pos}
 use lib.ListN.{length, getD, set, take, length-set}
 use lib.Seq.{take-suc, take-suc-set, take-length}
-use Rattle.card_text.proofs.Clamped.{told}
-use Rattle.replay_steps.specs.Line.{capacity}
+use Rattle.columns.proofs.Signed.{told}
+use Rattle.replay_steps.specs.Answer.{capacity}
 use Rattle.replay_steps.specs.Inner.{listed}
 use Rattle.replay_steps.proofs.numbers.append.Statement.{statement}
 use Rattle.replay_steps.proofs.numbers.append.Tie as tie

@@ -1,13 +1,13 @@
 -- `append_points` meets its contract. The invariant: the sides of k rectangles stand behind the numbers. The measure is what is left of them.
 -- Assumes nothing.
-use mathlib.Core.Path.{_≡_, sym, ap, subst, _∙_}
-use mathlib.Core.List.{List, []}
-use Prim.Native.Nat.{ℕ, _+_, _-_, _*_, _≤_}
+use mathlib.Core.Path.{_≡_, sym, ap, subst}
+use mathlib.Core.List.{List}
+use Prim.Native.Nat.{ℕ, _+_, _-_, _≤_}
 use native.Mathlib.Omega.{arith}
 use lib.IntN.{ℤ}
 use lib.ListN.{length}
 use Rattle.curve.specs.Curve.{point}
-use Rattle.replay_steps.specs.Answer.{sidesThen, sidesTo}
+use Rattle.replay_steps.specs.Answer.{sidesTo}
 use Rattle.replay_steps.specs.Inner.{Grown}
 use Rattle.replay_steps.proofs.Points.{points-count, points-next}
 use Rattle.replay_steps.proofs.Gathered.{grown-none, grown-then}

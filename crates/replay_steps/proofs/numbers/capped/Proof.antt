@@ -4,7 +4,7 @@ use mathlib.Core.Path.{_≡_, ap, _∙_}
 use Prim.Native.Nat.{min}
 use native.Mathlib.Omega.{arith}
 use lib.IntN.{ℤ, pos}
-use Rattle.replay_steps.specs.Line.{largest}
+use Rattle.replay_steps.specs.Counts.{largest}
 use Rattle.replay_steps.proofs.Fitting.{as-signed}
 use borrow.Author.Needs.{needs}
 use Rattle.replay_steps.proofs.numbers.capped.Statement.{statement}
