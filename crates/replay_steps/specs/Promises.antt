@@ -2,7 +2,7 @@
 -- Assumes nothing.
 use mathlib.Core.Path.{_≡_}
 use mathlib.Core.Bool.{true, false}
-use mathlib.Core.List.{List, [], _∷_, _++_}
+use mathlib.Core.List.{List, [], _∷_, _++_, foldl}
 use Prim.Native.Nat.{ℕ, _+_, _≤_, _<_, min}
 use lib.IntN.{pos}
 use lib.ListN.{length, take}
@@ -43,18 +43,9 @@ answerTo s (cut num den left) = subdivision s num den false
 answerTo s (cut num den right) = subdivision s num den true
 answerTo s raising = elevation s
 
--- a case, a curve and a ledger after a list of calls
-unfoldable pub caseAfter : Case → List Call → Case
-caseAfter s [] = s
-caseAfter s (call ∷ calls) = caseAfter (answerTo s call .case) calls
-
-unfoldable pub curveAfter : Curve → List Call → Curve
-curveAfter c [] = c
-curveAfter c (call ∷ calls) = curveAfter (leaves c call) calls
-
-unfoldable pub ledgerAfter : Ledger → List Call → Ledger
-ledgerAfter l [] = l
-ledgerAfter l (call ∷ calls) = ledgerAfter (after l call) calls
+-- and the case that it leaves
+abbrev pub caseAfter : Case → Call → Case
+caseAfter s call = answerTo s call .case
 
 -- the case has the curve that the calls leave and the ledger's sum, up to the largest number; an accepted reading shows the ledger's sum with its degree
 pub record Follows (now : Curve) (l : Ledger) (s : Case) : Type 0 where
@@ -68,4 +59,4 @@ pub record Follows (now : Curve) (l : Ledger) (s : Case) : Type 0 where
 abbrev pub KeepsLedger : Type 0
 KeepsLedger =
     (c : Curve) → Accepted c → (calls : List Call) →
-    Follows (curveAfter c calls) (ledgerAfter (opened c) calls) (caseAfter (record { curve = c; sum = 0 }) calls)
+    Follows (foldl leaves c calls) (foldl after (opened c) calls) (foldl caseAfter (record { curve = c; sum = 0 }) calls)
