@@ -73,25 +73,22 @@ module _ (s : Case) (l : Ledger) (degrees : s .curve .degree ≡ l .degree) (sum
 
 -- ---- along a list
 
--- the number shown is the sum with the degree
-shows : (c : Curve) (l : Ledger) (s : Case) → Kept c l (s .curve) → s .sum ≡ min (l .sum) largest → (num den : ℕ) → AcceptedAt num den →
-    evaluation s num den .numbers ≡ pos 0 ∷ (sides (evaluated (s .curve) num den .load) ++ (capped (l .sum + l .degree) ∷ []))
+-- what a reading shows of a case that has the present curve and sum
+shows : (c now : Curve) (l : Ledger) (s : Case) → Kept c l now → s .curve ≡ now → s .sum ≡ min (l .sum) largest → Follows now l s
 unfolding evaluation
-shows c l s kept sums num den at =
-    let none : evaluated (s .curve) num den .refusal .number ≡ 0 = ap (λ (e : Evaluation). e .refusal .number) (evaluated-accepted (s .curve) num den (kept .accepted) at) in
-    let degrees = kept .degrees in
-    let same : min (s .sum + s .curve .degree) largest ≡ min (l .sum + l .degree) largest = omega arith in
-    rw (eq-eqb (evaluated (s .curve) num den .refusal .number) 0 none, same)
+shows c now l s kept e sums = record { curve = e; sum = sums; shown = shown }
+  where
+    shown : (num den : ℕ) → AcceptedAt num den →
+        evaluation s num den .numbers ≡ pos 0 ∷ (sides (evaluated now num den .load) ++ (capped (l .sum + l .degree) ∷ []))
+    shown num den at =
+        let none = ap (λ (x : Evaluation). x .refusal .number) (evaluated-accepted now num den (kept .accepted) at) in
+        let degrees = kept .degrees in
+        let same : min (s .sum + now .degree) largest ≡ min (l .sum + l .degree) largest = omega arith in
+        rw (e, eq-eqb (evaluated now num den .refusal .number) 0 none, same)
 
 follows : (c : Curve) (calls : List Call) (now : Curve) (l : Ledger) (s : Case) → Kept c l now → s .curve ≡ now → s .sum ≡ min (l .sum) largest →
     Follows (foldl leaves now calls) (foldl after l calls) (foldl caseAfter s calls)
-follows c [] now l s kept e sums =
-    record {
-      curve = e;
-      sum = sums;
-      shown = subst (λ (x : Curve). (num den : ℕ) → AcceptedAt num den → evaluation s num den .numbers ≡ pos 0 ∷ (sides (evaluated x num den .load) ++ (capped (l .sum + l .degree) ∷ []))) e
-          (shows c l s (subst (Kept c l) (sym e) kept) sums);
-    }
+follows c [] now l s kept e sums = shows c now l s kept e sums
 follows c (call ∷ calls) now l s kept e sums =
     let here : Kept c l (s .curve) = subst (Kept c l) (sym e) kept in
     follows c calls (leaves now call) (after l call) (caseAfter s call) (after-kept c l now kept call)
