@@ -1,14 +1,17 @@
 -- What is shown by whether the card is refused, how long it is, and how it gets into the buffer.
 -- Assumes nothing.
 use mathlib.Core.Path.{_≡_, refl, sym, ap, _∙_, subst}
-use mathlib.Core.Bool.{Bool, cond}
+use mathlib.Core.Bool.{Bool, true, cond}
 use mathlib.Core.List.{List, [], _∷_, _++_}
 use Prim.Native.Nat.{ℕ, _+_, _≤_, _<_}
 use native.Mathlib.Omega.{arith}
 use lib.IntN.{pos}
 use lib.ListN.{length, take, drop, length-append, length-take}
 use borrow.Author.Tests.{le-leb, lt-leb, eq-eqb, ne-eqb}
-use Rattle.columns.specs.Column.{column}
+use Rattle.columns.specs.Line.{placed, allFit, afterLine}
+use Rattle.columns.proofs.Lines.{number-fits, fit-none, fit-more, line-long}
+use Rattle.columns.proofs.Placed.{placed-front}
+use Rattle.columns.proofs.Put.{line-put}
 use Rattle.curve.specs.declared.Curve.{Curve}
 use Rattle.curve.specs.declared.Evaluation.{Evaluation}
 use Rattle.curve.specs.declared.Refusal.{Refusal}
@@ -18,16 +21,13 @@ use Rattle.curve.specs.Inner.{Held}
 use Rattle.curve.proofs.Answers.{evaluated-accepted}
 use Rattle.curve.proofs.Pieces.{load-held}
 use Rattle.card_text.specs.declared.CardRead.{CardRead}
-use Rattle.card_text.specs.Card.{newline, row}
-use Rattle.card_text.specs.Inner.{placed}
+use Rattle.card_text.specs.Card.{row}
 use Rattle.card_text.specs.Reading.{readCard}
 use Rattle.card_text.proofs.Fitting.{row-long}
-use Rattle.card_text.proofs.Placed.{placed-front}
+use Rattle.card_text.proofs.Places.{card-within}
 use Rattle.card_text.proofs.Promises.{read-refusal}
 use Rattle.card_report.specs.Report.{mostBytes, curveLines, refusalLine, shown, mostShown, reportLength, reportBytes}
 use Rattle.card_report.proofs.BoundsHeld.{bounds-held}
-use Rattle.card_report.proofs.Numbers.{pair-long}
-use Rattle.card_report.proofs.Places.{card-within}
 
 -- ---- lengths
 
@@ -44,11 +44,19 @@ unfolding curveLines
 lines-long c ok =
     length-append (row (bounded c .rect)) (row (evaluated c 1 2 .load)) ∙ rw (row-long (bounds-held c ok), row-long (half-held c ok))
 
-pub refusal-long : (r : Refusal) → (r .number ≤ mostBytes) × (r .place ≤ mostBytes) → length (refusalLine r) ≡ 21
-unfolding refusalLine
-refusal-long r (h, k) =
-    length-append (column (pos (r .number)) ++ column (pos (r .place))) (newline ∷ [])
-    ∙ rw (pair-long (r .number) (r .place) (omega arith) (omega arith))
+-- a refusal's two numbers fit their columns
+module _ (r : Refusal) (small : (r .number ≤ mostBytes) × (r .place ≤ mostBytes)) where
+  refusal-fits : allFit (pos (r .number) ∷ pos (r .place) ∷ []) ≡ true
+  refusal-fits =
+      fit-more (pos (r .number)) (pos (r .place) ∷ []) (number-fits (r .number) (omega arith)) (fit-more (pos (r .place)) [] (number-fits (r .place) (omega arith)) fit-none)
+
+  pub refusal-long : length (refusalLine r) ≡ 21
+  unfolding refusalLine
+  refusal-long = line-long (pos (r .number) ∷ pos (r .place) ∷ []) refusal-fits
+
+  pub refusal-put : (bytes : List ℕ) → 21 ≤ length bytes → afterLine bytes 0 (pos (r .number) ∷ pos (r .place) ∷ []) ≡ placed bytes 0 (refusalLine r)
+  unfolding refusalLine
+  refusal-put bytes room = line-put bytes 0 (pos (r .number) ∷ pos (r .place) ∷ []) refusal-fits room .1
 
 -- ---- by the refusal
 
@@ -60,7 +68,7 @@ module _ (input : List ℕ) where
   card-size = omega (arith, length-take mostBytes input)
 
   pub read-within : (readCard card .refusal .number ≤ mostBytes) × (readCard card .refusal .place ≤ mostBytes)
-  read-within = rw (read-refusal card) (card-within card card-size)
+  read-within = rw (read-refusal card) (card-within mostBytes (omega arith) card card-size)
 
   abbrev shownIf : Bool → CardRead → List ℕ
   shownIf b read = cond b (curveLines (read .curve)) (refusalLine (read .refusal))

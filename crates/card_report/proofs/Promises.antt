@@ -10,7 +10,7 @@ use lib.ListN.{length, getD, take, drop, length-append, length-drop}
 use lib.Seq.{take-append-seam, getD-append-add, getD-drop}
 use borrow.Author.Tests.{leb-true, leb-false, eqb-true, eqb-false}
 use Rattle.card_text.specs.Reading.{readCard}
-use Rattle.card_text.proofs.Placed.{placed-front}
+use Rattle.columns.proofs.Placed.{placed-front}
 use Rattle.card_text.proofs.Promises.{read-is-written}
 use Rattle.card_report.specs.Report.{mostBytes, shown, mostShown, reportLength, reportBytes}
 use Rattle.card_report.specs.Promises.{ShownLines, ReportShows, ReportKeeps}

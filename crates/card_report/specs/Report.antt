@@ -6,11 +6,11 @@ use mathlib.Core.List.{List, [], _∷_, _++_}
 use lib.Dec.{leb, eqb}
 use lib.IntN.{pos}
 use lib.ListN.{length, take, drop}
-use Rattle.columns.specs.Column.{column}
+use Rattle.columns.specs.Line.{line}
 use Rattle.curve.specs.declared.Curve.{Curve}
 use Rattle.curve.specs.declared.Refusal.{Refusal}
 use Rattle.curve.specs.Calls.{bounded, evaluated}
-use Rattle.card_text.specs.Card.{newline, row}
+use Rattle.card_text.specs.Card.{row}
 use Rattle.card_text.specs.Reading.{readCard}
 
 -- the most bytes that are taken as a card
@@ -23,7 +23,7 @@ curveLines c = row (bounded c .rect) ++ row (evaluated c 1 2 .load)
 
 -- the line of a refusal: number and place
 unfoldable pub refusalLine : Refusal → List ℕ
-refusalLine r = column (pos (r .number)) ++ column (pos (r .place)) ++ (newline ∷ [])
+refusalLine r = line (pos (r .number) ∷ pos (r .place) ∷ [])
 
 -- what is printed for an input
 unfoldable pub shown : List ℕ → List ℕ

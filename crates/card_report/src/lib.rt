@@ -2,14 +2,11 @@
 ghost use mathlib.Core.Path.{_≡_};
 ghost use lib.ListN.{take};
 ghost use Rattle.card_report.specs.Report.{mostBytes, reportLength, reportBytes};
-
-mod lines;
-
 use card_text::read_card;
+use card_text::sides;
+use columns::put_line;
 use curve::bounds;
 use curve::evaluate;
-use lines::put_rect;
-use lines::put_refusal;
 
 // The most bytes that are taken as a card.
 pub const MOST_BYTES: usize = 4096;
@@ -41,12 +38,14 @@ pub fn report(input: &[u8], out: &mut [u8]) -> usize
     let read = read_card(card_of(input));
     let refusal = read.refusal;
     if refusal.number != 0 {
-        put_refusal(out, refusal);
+        let number = refusal.number as i64;
+        let place = refusal.place as i64;
+        put_line(out, 0, &[number, place]);
         return REFUSAL_LENGTH;
     }
     let enclosure = bounds(read.curve);
     let reading = evaluate(read.curve, 1, 2);
-    put_rect(out, 0, enclosure.rect);
-    put_rect(out, LINE_LENGTH, reading.load);
+    put_line(out, 0, &sides(enclosure.rect));
+    put_line(out, LINE_LENGTH, &sides(reading.load));
     LINES_LENGTH
 }

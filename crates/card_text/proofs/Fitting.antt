@@ -13,7 +13,7 @@ use Rattle.rational.proofs.Order.{pos-reflects}
 use Rattle.rational.specs.Rounding.{down, up}
 use Rattle.columns.specs.Column.{fitsColumn}
 use Rattle.columns.specs.Line.{placed, allFit, afterLine}
-use Rattle.columns.proofs.Lines.{fit-none, fit-more, line-long}
+use Rattle.columns.proofs.Lines.{number-fits, fit-none, fit-more, line-long}
 use Rattle.columns.proofs.Put.{line-put}
 use Rattle.curve.specs.declared.Curve.{Curve}
 use Rattle.curve.specs.declared.Rect.{Rect}
@@ -30,10 +30,6 @@ unfolding fitsColumn
 side-fits-column (pos n) h = let g = pos-reflects (h .to) in le-leb n 9999999999 (omega arith)
 side-fits-column (negsuc n) h = let g = leb→le n 16777215 (h .from .le) in le-leb (suc n) 999999999 (omega arith)
 
-pub degree-fits-column : (n : ℕ) → n ≤ maxDegree → fitsColumn (pos n) ≡ true
-unfolding fitsColumn
-degree-fits-column n h = le-leb n 9999999999 (omega arith)
-
 pub sides-fit : {p : Rect} → Held p → allFit (sides p) ≡ true
 sides-fit {p} h =
     let r = h .at resistance in
@@ -44,7 +40,7 @@ sides-fit {p} h =
     fit-more (p .resistance .low) (p .resistance .high ∷ p .reactance .low ∷ p .reactance .high ∷ []) (side-fits-column _ (r .at down)) last
 
 pub degree-fits : (n : ℕ) → n ≤ maxDegree → allFit (pos n ∷ []) ≡ true
-degree-fits n h = fit-more (pos n) [] (degree-fits-column n h) fit-none
+degree-fits n h = fit-more (pos n) [] (number-fits n (omega arith)) fit-none
 
 -- ---- what is put
 

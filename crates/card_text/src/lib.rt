@@ -82,8 +82,7 @@ pub fn write_card(c: Curve, out: &mut [u8]) -> CardWritten
     if refusal.number != 0 {
         return CardWritten { refusal, length: 0 };
     }
-    let header = [c.degree as i64];
-    put_line(out, 0, &header);
+    put_line(out, 0, &[c.degree as i64]);
     write_rows(out, c);
     CardWritten {
         refusal,

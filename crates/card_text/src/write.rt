@@ -34,8 +34,7 @@ pub fn write_rows(out: &mut [u8], c: Curve)
     let mut k = 0;
     while k <= n {
         let p = c.points[k];
-        let numbers = sides(p);
-        put_line(out, HEADER_LENGTH + ROW_LENGTH * k, &numbers);
+        put_line(out, HEADER_LENGTH + ROW_LENGTH * k, &sides(p));
         k += 1;
     }
 }

@@ -9,12 +9,17 @@ use native.Mathlib.Omega.{arith}
 use lib.IntN.{ℤ, pos}
 use lib.ListN.{length, getD, take, drop, length-append, length-take}
 use lib.Seq.{take-suc, take-at, drop-at, drop-drop, drop-cons}
+use borrow.Author.Tests.{le-leb}
 use Rattle.columns.specs.Column.{column, fitsColumn}
 use Rattle.columns.specs.Line.{placed, newline, columns, line, lineLength, allFit}
 use Rattle.columns.proofs.Decode.{both, column-ten}
 use Rattle.columns.proofs.Placed.{placed-then}
 
 -- ---- numbers that fit
+
+pub number-fits : (n : ℕ) → n ≤ 9999999999 → fitsColumn (pos n) ≡ true
+unfolding fitsColumn
+number-fits n h = le-leb n 9999999999 h
 
 pub fit-none : allFit [] ≡ true
 unfolding allFit

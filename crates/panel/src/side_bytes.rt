@@ -2,7 +2,7 @@
 ghost use mathlib.Core.Path.{_≡_};
 ghost use Prim.Native.Nat.{_+_, _≤_};
 ghost use lib.ListN.{length};
-ghost use Rattle.card_text.specs.Inner.{placed};
+ghost use Rattle.columns.specs.Line.{placed};
 ghost use Rattle.panel.specs.Panel.{bitsOf, sideBytes, intervalBytes, loadBytes};
 use curve::Interval;
 use curve::Rect;

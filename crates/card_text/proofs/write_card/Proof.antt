@@ -39,8 +39,8 @@ accepted c =
 few : (c : tie.Else1) → c .before .before .before .before .args .c .degree ≤ maxDegree
 few c = accepted-facts _ (accepted c .0) .few
 
-cast-t7 : tie.Need-cast-t7
-cast-t7 c = search needs
+cast-t9 : tie.Need-cast-t9
+cast-t9 c = search needs
 
 slice-aggregate-put-line : tie.Need-slice-aggregate-put-line
 slice-aggregate-put-line c = search needs
@@ -78,7 +78,7 @@ write-card-spec =
     (tie.spec
     writing-refusal-requires
     returns
-    cast-t7
+    cast-t9
     slice-aggregate-put-line
     put-line-requires
     write-rows-requires

@@ -13,8 +13,8 @@ use Rattle.curve.specs.Calls.{evaluated}
 use Rattle.curve.proofs.Refused.{number-passed}
 use Rattle.card_text.specs.declared.CardRead.{CardRead}
 use Rattle.card_text.specs.Reading.{cardRefusal, readCard}
-use Rattle.card_text.specs.Inner.{placed}
-use Rattle.card_text.proofs.Placed.{placed-front}
+use Rattle.columns.specs.Line.{placed}
+use Rattle.columns.proofs.Placed.{placed-front}
 use Rattle.card_text.proofs.Promises.{read-refusal}
 use Rattle.panel.specs.Panel.{loadBytes, panelLoad}
 use Rattle.panel.proofs.Call.{refusal-read, refused-card, refused-parameter, refused-short, refused-none, refused, written}

@@ -47,14 +47,14 @@ mul-p c = let s = c .before .before .before in omega (arith, few (s .args .t2) (
 element-copy-out-p : tie.Need-element-copy-out-p Inv-loop μ-loop
 element-copy-out-p c = let s = c .before .before .before in omega (arith, few (s .args .t2) (s .pre .0))
 
-sides-requires : tie.Need-sides-requires Inv-loop μ-loop
-sides-requires c κs = tt
-
 mul-put-line : tie.Need-mul-put-line Inv-loop μ-loop
-mul-put-line c = let s = c .before .before .before .before .before .before in omega (arith, few (s .args .t2) (s .pre .0))
+mul-put-line c = let s = c .before .before .before .before .before in omega (arith, few (s .args .t2) (s .pre .0))
 
 add-put-line : tie.Need-add-put-line Inv-loop μ-loop
-add-put-line c = let s = c .before .before .before .before .before .before in omega (arith, few (s .args .t2) (s .pre .0))
+add-put-line c = let s = c .before .before .before .before .before in omega (arith, few (s .args .t2) (s .pre .0))
+
+sides-requires : tie.Need-sides-requires Inv-loop μ-loop
+sides-requires c κs = tt
 
 slice-aggregate-put-line : tie.Need-slice-aggregate-put-line Inv-loop μ-loop
 slice-aggregate-put-line c = search needs
@@ -72,13 +72,13 @@ loop-again : tie.Need-loop-again Inv-loop μ-loop
 unfolding rows
 loop-again c =
     let w = c .before .before in
-    let t = w .before .before .before in
-    let l = t .before .before .before in
+    let t = w .before .before in
+    let l = t .before .before .before .before in
     let s = l .before .before in
     let P = point (s .args .t2) in
     let k = l .loop .k in
     let out = s .args .out .now in
-    let in? : k ≤ s .args .t2 .degree = omega (arith, t .before .before .loop-test .taken) in
+    let in? : k ≤ s .args .t2 .degree = omega (arith, t .before .before .before .loop-test .taken) in
     let ready = held (s .args .t2) (s .pre .0) in
     let size : length (rows k P) ≡ rowLength * k = rows-long k P (λ i h. row-long (ready i (omega arith))) in
     let row-in : w .put-line .last .0 ≡ placed (l .loop .out) (rowAt k) (row (P k)) =
@@ -110,9 +110,9 @@ write-rows-spec =
     loop-holds
     mul-p
     element-copy-out-p
-    sides-requires
     mul-put-line
     add-put-line
+    sides-requires
     slice-aggregate-put-line
     put-line-requires
     add-k

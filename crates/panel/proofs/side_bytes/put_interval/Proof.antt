@@ -6,8 +6,8 @@ use native.Mathlib.Omega.{arith}
 use lib.IntN.{ℤ}
 use borrow.Author.Needs.{needs}
 use Rattle.curve.proofs.Machine.{told}
-use Rattle.card_text.specs.Inner.{placed}
-use Rattle.card_text.proofs.Placed.{placed-then}
+use Rattle.columns.specs.Line.{placed}
+use Rattle.columns.proofs.Placed.{placed-then}
 use Rattle.panel.specs.Panel.{sideBytes, intervalBytes}
 use Rattle.panel.proofs.Lengths.{side-long}
 use Rattle.panel.proofs.side_bytes.put_interval.Statement.{statement}

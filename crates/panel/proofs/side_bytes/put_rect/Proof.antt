@@ -3,7 +3,7 @@
 use mathlib.Core.Path.{_∙_}
 use native.Mathlib.Omega.{arith}
 use borrow.Author.Needs.{needs}
-use Rattle.card_text.proofs.Placed.{placed-then}
+use Rattle.columns.proofs.Placed.{placed-then}
 use Rattle.panel.specs.Panel.{intervalBytes, loadBytes}
 use Rattle.panel.proofs.Lengths.{interval-long}
 use Rattle.panel.proofs.side_bytes.put_rect.Statement.{statement}

@@ -9,7 +9,7 @@ use lib.ListN.{length-set}
 use lib.Seq.{sets-eq}
 use borrow.Author.Needs.{needs}
 use Rattle.curve.proofs.Machine.{back}
-use Rattle.card_text.specs.Inner.{placed}
+use Rattle.columns.specs.Line.{placed}
 use Rattle.panel.specs.Panel.{bitsOf, sideBytes}
 use Rattle.panel.proofs.side_bytes.put_side.Statement.{statement}
 use Rattle.panel.proofs.side_bytes.put_side.Tie as tie
