@@ -3,9 +3,8 @@
 use mathlib.Core.Path.{_≡_, ap, _∙_}
 use mathlib.Core.Bool.{true}
 use mathlib.Core.List.{[], _∷_}
-use Prim.Native.Nat.{ℕ, _+_, _≤_, _<_, _^_, min}
+use Prim.Native.Nat.{ℕ, _+_, _<_, _^_, min}
 use native.Mathlib.Omega.{arith}
-use borrow.Author.Tests.{le-leb}
 use lib.IntN.{ℤ, pos}
 use mir.Syntax.{w64}
 use mir.Val.{toZ, ofZ}
@@ -13,16 +12,12 @@ use mir.ValLaws.{toZ-ofZ}
 use Rattle.columns.specs.Column.{fitsColumn}
 use Rattle.columns.specs.Line.{allFit}
 use Rattle.replay_steps.specs.Counts.{largest, added, capped}
-use Rattle.columns.proofs.Lines.{fit-none, fit-more}
+use Rattle.columns.proofs.Lines.{number-fits, fit-none, fit-more}
 
 -- ---- what fits a column
 
 pub fit-one : (z : ℤ) → fitsColumn z ≡ true → allFit (z ∷ []) ≡ true
 fit-one z h = fit-more z [] h fit-none
-
-pub number-fits : (n : ℕ) → n ≤ largest → fitsColumn (pos n) ≡ true
-unfolding fitsColumn
-number-fits n h = le-leb n largest h
 
 pub capped-fits : (n : ℕ) → fitsColumn (capped n) ≡ true
 capped-fits n = number-fits (min n largest) (omega arith)

@@ -19,8 +19,8 @@ use Rattle.replay_steps.specs.Counts.{largest, capped}
 use Rattle.replay_steps.specs.Answer.{capacity}
 use Rattle.replay_steps.specs.Answer.{Answer, refusing, answering}
 use Rattle.replay_steps.specs.Inner.{listed, noNumbers, Grown, Replied}
-use Rattle.columns.proofs.Lines.{fit-more}
-use Rattle.replay_steps.proofs.Fitting.{as-signed, fit-one, number-fits, capped-fits}
+use Rattle.columns.proofs.Lines.{number-fits, fit-more}
+use Rattle.replay_steps.proofs.Fitting.{as-signed, fit-one, capped-fits}
 
 -- nothing more, and more behind what there is more
 pub grown-none : (n : Numbers) → length (n .values) ≡ capacity → Grown n [] n

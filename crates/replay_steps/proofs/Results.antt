@@ -2,7 +2,7 @@
 -- Assumes nothing.
 use mathlib.Core.Path.{_≡_, refl, sym, ap, subst, _∙_}
 use mathlib.Core.Bool.{Bool, true, false}
-use mathlib.Core.List.{_∷_, _++_}
+use mathlib.Core.List.{[], _∷_, _++_}
 use Prim.Native.Nat.{ℕ, _≤_}
 use native.Mathlib.Omega.{arith}
 use borrow.Author.Tests.{eqb-true}
@@ -10,7 +10,6 @@ use lib.Dec.{eqb}
 use lib.IntN.{pos, negℤ}
 use Rattle.rational.specs.Rounding.{Rounding, down, up}
 use Rattle.rational.proofs.Order.{≤ℤ-trans}
-use Rattle.columns.specs.Column.{fitsColumn}
 use Rattle.curve.specs.declared.Curve.{Curve}
 use Rattle.curve.specs.declared.Rect.{Rect}
 use Rattle.curve.specs.declared.Interval.{Interval}
@@ -30,10 +29,10 @@ use Rattle.curve.proofs.Answers.{evaluated-accepted, evaluated-refusal, subdivi
 use Rattle.curve.proofs.Pieces.{load-held, good-pieces, good-raised}
 use Rattle.curve.proofs.BoundsLeast.{least-bounds}
 use Rattle.card_text.specs.Card.{sides}
-use Rattle.card_text.proofs.Fitting.{degree-fits-column, sides-fit}
+use Rattle.card_text.proofs.Fitting.{degree-fits, sides-fit}
 use Rattle.columns.specs.Line.{allFit}
 use Rattle.replay_steps.specs.Answer.{sidesOf}
-use Rattle.columns.proofs.Lines.{fit-more, fit-append}
+use Rattle.columns.proofs.Lines.{fit-append}
 use Rattle.replay_steps.proofs.Points.{curve-fits}
 
 abbrev numberOf : Refusal → ℕ
@@ -47,12 +46,8 @@ by-number {P} n zero more = go (eqb n 0) refl
     go true e = zero (eqb-true n 0 e)
     go false e = more e
 
--- the degree of an accepted curve, before its rectangles
 degree-few : (c : Curve) → Accepted c → c .degree ≤ maxDegree
 degree-few c a = accepted-facts c a .few
-
-degree-fits : (c : Curve) → Accepted c → fitsColumn (pos (c .degree)) ≡ true
-degree-fits c a = degree-fits-column (c .degree) (degree-few c a)
 
 -- ---- the load
 
@@ -77,7 +72,7 @@ module _ (c : Curve) (num den : ℕ) where
   fits : subdivided c num den .refusal .number ≡ 0 → allFit (pos (c .degree) ∷ (sidesOf (subdivided c num den .left) ++ sidesOf (subdivided c num den .right))) ≡ true
   fits h =
       let (a, p) = good (sym (ap numberOf (subdivided-refusal c num den)) ∙ h) in
-      fit-more _ _ (degree-fits c a) (fit-append _ _ (curve-fits _ (p .leftAccepted)) (curve-fits _ (p .rightAccepted)))
+      fit-append (pos (c .degree) ∷ []) _ (degree-fits (c .degree) (degree-few c a)) (fit-append _ _ (curve-fits _ (p .leftAccepted)) (curve-fits _ (p .rightAccepted)))
 
   pub pieces-few : {d : Subdivision} → d ≡ subdivided c num den → (d .left .degree ≤ maxDegree) × (d .right .degree ≤ maxDegree)
   pieces-few same = rw same few
@@ -98,7 +93,7 @@ module _ (c : Curve) {e : Elevation} (same : e ≡ elevated c) where
   pub raised-fits : e .refusal .number ≡ 0 → allFit (pos (e .curve .degree) ∷ sidesOf (e .curve)) ≡ true
   raised-fits h =
       let a = good-elevated (sym (ap numberOf (ap (λ (x : Elevation). x .refusal) same ∙ elevated-refusal c)) ∙ h) in
-      fit-more _ _ (degree-fits (e .curve) a) (curve-fits (e .curve) a)
+      fit-append (pos (e .curve .degree) ∷ []) _ (degree-fits (e .curve .degree) (degree-few (e .curve) a)) (curve-fits (e .curve) a)
 
 -- ---- the bounds: outside the first rectangle, and inside the widest one
 

@@ -9,7 +9,8 @@ use lib.IntN.{ℤ, pos}
 use Rattle.columns.specs.Line.{allFit}
 use Rattle.replay_steps.specs.Answer.{answering}
 use Rattle.replay_steps.specs.Inner.{noNumbers, Grown, Replied}
-use Rattle.replay_steps.proofs.Fitting.{fit-one, number-fits}
+use Rattle.columns.proofs.Lines.{number-fits}
+use Rattle.replay_steps.proofs.Fitting.{fit-one}
 use Rattle.replay_steps.proofs.Gathered.{one-number, can-answer}
 use borrow.Author.Needs.{needs}
 use Rattle.replay_steps.proofs.opening.Statement.{statement}

@@ -9,8 +9,8 @@ use mir.Syntax.{w64}
 use mir.Val.{toZ, ofZ}
 use Rattle.columns.specs.Line.{allFit}
 use Rattle.replay_steps.specs.Counts.{capped}
-use Rattle.columns.proofs.Lines.{fit-more}
-use Rattle.replay_steps.proofs.Fitting.{fit-one, number-fits, capped-fits, capped-back}
+use Rattle.columns.proofs.Lines.{number-fits, fit-more}
+use Rattle.replay_steps.proofs.Fitting.{fit-one, capped-fits, capped-back}
 use Rattle.replay_steps.proofs.Replies.{wrote-stop}
 use borrow.Author.Needs.{needs}
 use Rattle.replay_steps.proofs.stopped.Statement.{statement}

@@ -2,8 +2,8 @@
 -- Assumes nothing.
 use mathlib.Core.Path.{refl}
 use native.Mathlib.Omega.{arith}
-use Rattle.columns.proofs.Lines.{fit-more}
-use Rattle.replay_steps.proofs.Fitting.{as-signed, fit-one, number-fits}
+use Rattle.columns.proofs.Lines.{number-fits, fit-more}
+use Rattle.replay_steps.proofs.Fitting.{as-signed, fit-one}
 use borrow.Author.Needs.{needs}
 use Rattle.replay_steps.proofs.answers.report.Statement.{statement}
 use Rattle.replay_steps.proofs.answers.report.Tie as tie
