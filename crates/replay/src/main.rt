@@ -1,18 +1,20 @@
 // Runs lists of calls from cards: reads standard input, and writes the answer to each card and each call.
 // The work is `step` of the crate replay_steps, which is proved equal to its definition; here it is proved that the program is safe and ends.
 ghost use mathlib.Core.Path.{_≡_};
-ghost use mathlib.Core.Bool.{true};
+ghost use mathlib.Core.Bool.{true, _&&_, _||_};
 ghost use Prim.Native.Nat.{_+_, _≤_};
+ghost use lib.Dec.{leb};
 ghost use lib.ListN.{length};
 ghost use Rattle.replay_steps.specs.declared.Status.the-variants.{Done};
+ghost use Rattle.replay_steps.specs.Step.{lineRoom};
+ghost use Rattle.replay_steps.specs.Promises.{window};
+use libc::STDIN_FILENO;
+use libc::STDOUT_FILENO;
 use replay_steps::LINE_ROOM;
 use replay_steps::Session;
 use replay_steps::Status;
 use replay_steps::WINDOW;
 use replay_steps::step;
-
-// The bytes of each buffer.
-const BUFFER_LENGTH: usize = 65536;
 
 // The session after a window of the input, how many of its bytes were taken, and whether the run goes on.
 struct Pass {
@@ -35,23 +37,20 @@ fn is_done(status: Status) -> bool
 
 // Whether a step can be taken: the run goes on, and the window holds all that a step may need or is the last.
 fn can_step(more: bool, last: bool, left: usize) -> bool
-    ensures { λ r. ⌜ (r ≡ true → more ≡ true) ⌝ }
+    ensures { λ r. ⌜ r ≡ (more && (last || leb window left)) ⌝ }
 {
-    if !more {
-        return false;
-    }
-    last || WINDOW <= left
+    more & (last | (WINDOW <= left))
 }
 
 // Writes the answers where there is no room behind them for another one, and answers where the next one goes.
 fn make_room(out: &[u8], used: usize) -> usize
     requires { ⌜ used ≤ length (now out) ⌝ }
-    ensures { λ r. ⌜ r ≤ used ⌝ }
+    ensures { λ r. ⌜ (r ≤ used) × (lineRoom ≤ length (now (out .entry)) → r + lineRoom ≤ length (now (out .entry))) ⌝ }
 {
     if LINE_ROOM <= out.len() - used {
         return used;
     }
-    io::write_all(1, &out[..used]);
+    io::write_all(STDOUT_FILENO, &out[..used]);
     0
 }
 
@@ -72,7 +71,7 @@ fn run_window(session: Session, window: &[u8], last: bool, out: &mut [u8]) -> Pa
         let status = stepped.status;
         more = is_done(status);
     }
-    io::write_all(1, &out[..used]);
+    io::write_all(STDOUT_FILENO, &out[..used]);
     Pass {
         session,
         taken,
@@ -93,16 +92,17 @@ fn to_front(buffer: &mut [u8], from: usize, end: usize) -> usize
     k
 }
 
-// Fills the input buffer, takes what is whole, and moves the rest to the front, until the input or the run ends.
+// Fills the input buffer, takes what is whole, and moves the rest to the front, until the input or the run ends. A buffer that is not full is the last.
 fn main() {
     let mut input = io::large_buffer();
     let mut output = io::large_buffer();
     let mut session = replay_steps::start();
     let mut kept = 0;
+    // Every loop must be proved to end: this one by a count of its turns that no input outlasts.
     let mut turns = u64::MAX;
     while 0 < turns {
-        let end = kept + io::read_full(0, &mut input[kept..]);
-        let pass = run_window(session, &input[..end], end < BUFFER_LENGTH, &mut output);
+        let end = kept + io::read_full(STDIN_FILENO, &mut input[kept..]);
+        let pass = run_window(session, &input[..end], end < input.len(), &mut output);
         if !pass.more {
             return;
         }

@@ -2,24 +2,25 @@
 -- Assumes nothing.
 use mathlib.Core.Path.{_≡_, refl, sym, ap, subst, _∙_}
 use mathlib.Core.Bool.{Bool, true, false, cond}
-use mathlib.Core.List.{List, [], _∷_}
+use mathlib.Core.List.{List, [], _∷_, _++_, foldl}
 use Prim.Native.Nat.{ℕ, _+_, min}
 use native.Mathlib.Omega.{arith}
 use borrow.Author.Tests.{eq-eqb}
 use lib.Dec.{eqb}
-use lib.IntN.{ℤ, pos}
+use lib.IntN.{pos}
 use Rattle.curve.specs.declared.Curve.{Curve}
 use Rattle.curve.specs.declared.Refusal.{Refusal}
 use Rattle.curve.specs.declared.Evaluation.{Evaluation}
 use Rattle.curve.specs.Refusals.{AcceptedAt}
 use Rattle.curve.specs.Calls.{evaluated}
 use Rattle.curve.proofs.Answers.{evaluated-accepted}
+use Rattle.card_text.specs.Card.{sides}
 use Rattle.ledger.specs.Ledger.{Ledger, Call, reading, cut, raising, left, right, opened, refused, entered, after, refusalOf, answerOf, leaves}
 use Rattle.ledger.proofs.Demand.{Kept, opened-kept, same-refusal, after-kept}
 use Rattle.replay_steps.specs.declared.Case.{Case}
-use Rattle.replay_steps.specs.Line.{largest, added, capped}
-use Rattle.replay_steps.specs.Answer.{sidesThen, refusing, evaluation, subdivision, elevation}
-use Rattle.replay_steps.specs.Promises.{answerTo, caseAfter, curveAfter, ledgerAfter, Follows, KeepsLedger}
+use Rattle.replay_steps.specs.Counts.{largest, added, capped}
+use Rattle.replay_steps.specs.Answer.{Answer, evaluation, subdivision, elevation}
+use Rattle.replay_steps.specs.Promises.{caseAfter, Follows, KeepsLedger}
 
 -- the sum after an accepted call
 abbrev grown : Case → Call → ℕ
@@ -34,26 +35,22 @@ accepted s call = record { curve = answerOf (s .curve) call; sum = grown s call 
 abbrev isAccepted : Curve → Call → Bool
 isAccepted c call = eqb (refusalOf c call .number) 0
 
-by-refusal : (b : Bool) (s : Case) (r : Refusal) (next : Case) (results : List ℤ) →
-    cond b (record { case = next; numbers = pos 0 ∷ results }) (refusing s r) .case ≡ cond b next s
-by-refusal true s r next results = refl
-by-refusal false s r next results = refl
+-- a part of what is chosen
+part : {A B : Type 0} (f : A → B) (b : Bool) (x y : A) → f (cond b x y) ≡ cond b (f x) (f y)
+part f true x y = refl
+part f false x y = refl
 
-case-of : (s : Case) (call : Call) → answerTo s call .case ≡ cond (isAccepted (s .curve) call) (accepted s call) s
+case-of : (s : Case) (call : Call) → caseAfter s call ≡ cond (isAccepted (s .curve) call) (accepted s call) s
 unfolding evaluation subdivision elevation
-case-of s (reading num den) = by-refusal (isAccepted (s .curve) (reading num den)) s _ s _
-case-of s (cut num den left) = by-refusal (isAccepted (s .curve) (cut num den left)) s _ (accepted s (cut num den left)) _
-case-of s (cut num den right) = by-refusal (isAccepted (s .curve) (cut num den right)) s _ (accepted s (cut num den right)) _
-case-of s raising = by-refusal (isAccepted (s .curve) raising) s _ (accepted s raising) _
+case-of s (reading num den) = part (λ (a : Answer). a .case) (isAccepted (s .curve) (reading num den)) _ _
+case-of s (cut num den left) = part (λ (a : Answer). a .case) (isAccepted (s .curve) (cut num den left)) _ _
+case-of s (cut num den right) = part (λ (a : Answer). a .case) (isAccepted (s .curve) (cut num den right)) _ _
+case-of s raising = part (λ (a : Answer). a .case) (isAccepted (s .curve) raising) _ _
 
 -- the curve is what the call leaves
-curve-of : (s : Case) (call : Call) → answerTo s call .case .curve ≡ leaves (s .curve) call
+curve-of : (s : Case) (call : Call) → caseAfter s call .curve ≡ leaves (s .curve) call
 unfolding leaves
-curve-of s call = ap (λ (x : Case). x .curve) (case-of s call) ∙ go (isAccepted (s .curve) call)
-  where
-    go : (b : Bool) → cond b (accepted s call) s .curve ≡ cond b (answerOf (s .curve) call) (s .curve)
-    go true = refl
-    go false = refl
+curve-of s call = ap (λ (x : Case). x .curve) (case-of s call) ∙ part (λ (x : Case). x .curve) (isAccepted (s .curve) call) (accepted s call) s
 
 -- the sum is the ledger's
 module _ (s : Case) (l : Ledger) (degrees : s .curve .degree ≡ l .degree) (sums : s .sum ≡ min (l .sum) largest) where
@@ -63,7 +60,7 @@ module _ (s : Case) (l : Ledger) (degrees : s .curve .degree ≡ l .degree) (sum
   grown-sum (cut num den right) = omega arith
   grown-sum raising = omega arith
 
-  sum-of : (call : Call) → refusalOf (s .curve) call ≡ refused l call → answerTo s call .case .sum ≡ min (after l call .sum) largest
+  sum-of : (call : Call) → refusalOf (s .curve) call ≡ refused l call → caseAfter s call .sum ≡ min (after l call .sum) largest
   unfolding after
   sum-of call same =
       ap (λ (x : Case). x .sum) (case-of s call)
@@ -76,29 +73,25 @@ module _ (s : Case) (l : Ledger) (degrees : s .curve .degree ≡ l .degree) (sum
 
 -- ---- along a list
 
--- the number shown is the sum with the degree
-shows : (c : Curve) (l : Ledger) (s : Case) → Kept c l (s .curve) → s .sum ≡ min (l .sum) largest → (num den : ℕ) → AcceptedAt num den →
-    evaluation s num den .numbers ≡ pos 0 ∷ sidesThen (evaluated (s .curve) num den .load) (capped (l .sum + l .degree) ∷ [])
+-- what a reading shows of a case that has the present curve and sum
+shows : (c now : Curve) (l : Ledger) (s : Case) → Kept c l now → s .curve ≡ now → s .sum ≡ min (l .sum) largest → Follows now l s
 unfolding evaluation
-shows c l s kept sums num den at =
-    let none : evaluated (s .curve) num den .refusal .number ≡ 0 = ap (λ (e : Evaluation). e .refusal .number) (evaluated-accepted (s .curve) num den (kept .accepted) at) in
-    let degrees = kept .degrees in
-    let same : min (s .sum + s .curve .degree) largest ≡ min (l .sum + l .degree) largest = omega arith in
-    rw (eq-eqb (evaluated (s .curve) num den .refusal .number) 0 none, same)
+shows c now l s kept e sums = record { curve = e; sum = sums; shown = shown }
+  where
+    shown : (num den : ℕ) → AcceptedAt num den →
+        evaluation s num den .numbers ≡ pos 0 ∷ (sides (evaluated now num den .load) ++ (capped (l .sum + l .degree) ∷ []))
+    shown num den at =
+        let none = ap (λ (x : Evaluation). x .refusal .number) (evaluated-accepted now num den (kept .accepted) at) in
+        let degrees = kept .degrees in
+        let same : min (s .sum + now .degree) largest ≡ min (l .sum + l .degree) largest = omega arith in
+        rw (e, eq-eqb (evaluated now num den .refusal .number) 0 none, same)
 
 follows : (c : Curve) (calls : List Call) (now : Curve) (l : Ledger) (s : Case) → Kept c l now → s .curve ≡ now → s .sum ≡ min (l .sum) largest →
-    Follows (curveAfter now calls) (ledgerAfter l calls) (caseAfter s calls)
-unfolding curveAfter ledgerAfter caseAfter
-follows c [] now l s kept e sums =
-    record {
-      curve = e;
-      sum = sums;
-      shown = subst (λ (x : Curve). (num den : ℕ) → AcceptedAt num den → evaluation s num den .numbers ≡ pos 0 ∷ sidesThen (evaluated x num den .load) (capped (l .sum + l .degree) ∷ [])) e
-          (shows c l s (subst (Kept c l) (sym e) kept) sums);
-    }
+    Follows (foldl leaves now calls) (foldl after l calls) (foldl caseAfter s calls)
+follows c [] now l s kept e sums = shows c now l s kept e sums
 follows c (call ∷ calls) now l s kept e sums =
     let here : Kept c l (s .curve) = subst (Kept c l) (sym e) kept in
-    follows c calls (leaves now call) (after l call) (answerTo s call .case) (after-kept c l now kept call)
+    follows c calls (leaves now call) (after l call) (caseAfter s call) (after-kept c l now kept call)
     (curve-of s call ∙ ap (λ (x : Curve). leaves x call) e) (sum-of s l (here .degrees) sums call (same-refusal c l (s .curve) here call))
 
 pub keeps-ledger : KeepsLedger

@@ -1,9 +1,9 @@
 -- Laws of the definitions in specs/, and the promises.
 pub mod Ranges
 pub mod Requests
-pub mod Lines
-pub mod Numbers
+pub mod Fitting
 pub mod Points
+pub mod Gathered
 pub mod Replies
 pub mod Results
 pub mod Cards

@@ -15,8 +15,8 @@ use Rattle.replay_steps.specs.declared.Stepped.{Stepped}
 use Rattle.replay_steps.specs.declared.Status.{Status}
 use Rattle.replay_steps.specs.declared.Status.the-variants.{Done, Ended, Stopped, NoRoom}
 use Rattle.replay_steps.specs.declared.request.Request.{Request}
-use Rattle.replay_steps.specs.declared.request.Request.the-variants.{Invalid, Close, Evaluate, Subdivide, Elevate, Bounds, Search}
-use Rattle.replay_steps.specs.Request.{wordAt, endsAt, endsLine, parameterAt, walkAt, shaped, requestBy, requestOf}
+use Rattle.replay_steps.specs.declared.request.Request.the-variants.{Invalid, Close, Elevate, Bounds}
+use Rattle.replay_steps.specs.Request.{wordAt, endsAt, endsLine, parameterAt, walkAt, shaped, bareAt, requestBy, requestOf}
 use Rattle.replay_steps.specs.Step.{Effect, idle, stopping, answered, opening, isWhole, cardSize, cardAt, cardStep, callStep, lineRoom, effect, stepped, written}
 use Rattle.replay_steps.specs.Promises.{Progress}
 
@@ -44,44 +44,48 @@ line-there bytes at e = go (ltb at (length bytes)) refl
         let none = List·getD-eq-default bytes 0 (ltb-false at (length bytes) h) in
         absurd (false≢true (ap (λ (b : ℕ). eqb b 10) (sym none) ∙ e))
 
+-- what holds of both holds of the one that is chosen
+pick : {A : Type 0} (P : A → Type 0) (b : Bool) {x y : A} → P x → P y → P (cond b x y)
+pick P true g h = g
+pick P false g h = h
+
 module _ (s : Session) (bytes : List ℕ) where
   abbrev Good : Request → Type 0
   Good r = Proper (length bytes) (callStep s r)
 
-  either : (b : Bool) (x y : Request) → Good x → Good y → Good (cond b x y)
-  either true x y g h = g
-  either false x y g h = h
-
   invalid : Good Invalid
   invalid = record { within = omega arith; taking = tt }
 
-  when-shaped : (ok : Bool) (r : Request) → (ok ≡ true → Good r) → Good (shaped ok r)
-  when-shaped true r g = g refl
-  when-shaped false r g = invalid
+  -- a line that is well formed where its last byte is there
+  well-formed : (ok : Bool) (n : ℕ) → (ok ≡ true → n < length bytes) → (r : Request) → (n < length bytes → Good r) → Good (shaped ok r)
+  well-formed true n there r g = g (there refl)
+  well-formed false n there r g = invalid
 
-  parameter-there : parameterAt bytes .ok ≡ true → 30 < length bytes
+  bare : (r : Request) → (10 < length bytes → Good r) → Good (bareAt bytes r)
+  bare = well-formed (endsLine bytes 10) 10 (line-there bytes 10)
+
+  parameter : (r : Request) → (30 < length bytes → Good r) → Good (shaped (parameterAt bytes .ok) r)
   unfolding parameterAt
-  parameter-there e = line-there bytes 30 (both (wordAt bytes 10 .ok && wordAt bytes 20 .ok) (endsLine bytes 30) e .1)
+  parameter = well-formed (parameterAt bytes .ok) 30 (λ e. line-there bytes 30 (both (wordAt bytes 10 .ok && wordAt bytes 20 .ok) (endsLine bytes 30) e .1))
 
-  walk-there : walkAt bytes .ok ≡ true → 70 < length bytes
+  walk : (r : Request) → (70 < length bytes → Good r) → Good (shaped (walkAt bytes .ok) r)
   unfolding walkAt
-  walk-there e =
-      line-there bytes 70 (both (endsAt bytes 10 .ok && endsAt bytes 30 .ok && wordAt bytes 50 .ok && wordAt bytes 60 .ok) (endsLine bytes 70) e .1)
+  walk =
+      well-formed (walkAt bytes .ok) 70
+      (λ e. line-there bytes 70 (both (endsAt bytes 10 .ok && endsAt bytes 30 .ok && wordAt bytes 50 .ok && wordAt bytes 60 .ok) (endsLine bytes 70) e .1))
 
   request-good : Good (requestOf bytes)
   unfolding requestOf requestBy
   request-good =
       let kind = wordAt bytes 0 .value in
-      let p = parameterAt bytes in
-      let w = walkAt bytes in
-      either (wordAt bytes 0 .ok) _ Invalid
-      (either (eqb kind 0) _ _ (when-shaped (endsLine bytes 10) Close (λ e. record { within = line-there bytes 10 e; taking = omega arith }))
-      (either (eqb kind 1) _ _ (when-shaped (p .ok) (Evaluate (p .num) (p .den)) (λ e. record { within = parameter-there e; taking = omega arith }))
-      (either (eqb kind 2) _ _ (when-shaped (p .ok) (Subdivide (p .num) (p .den) false) (λ e. record { within = parameter-there e; taking = omega arith }))
-      (either (eqb kind 3) _ _ (when-shaped (p .ok) (Subdivide (p .num) (p .den) true) (λ e. record { within = parameter-there e; taking = omega arith }))
-      (either (eqb kind 4) _ _ (when-shaped (endsLine bytes 10) Elevate (λ e. record { within = line-there bytes 10 e; taking = omega arith }))
-      (either (eqb kind 5) _ _ (when-shaped (endsLine bytes 10) Bounds (λ e. record { within = line-there bytes 10 e; taking = omega arith }))
-      (either (eqb kind 6) _ Invalid (when-shaped (w .ok) (Search (w .limits) (w .depth) (w .budget)) (λ e. record { within = walk-there e; taking = omega arith }))
+      pick Good (wordAt bytes 0 .ok)
+      (pick Good (eqb kind 0) (bare Close (λ h. record { within = h; taking = omega arith }))
+      (pick Good (eqb kind 1) (parameter _ (λ h. record { within = h; taking = omega arith }))
+      (pick Good (eqb kind 2) (parameter _ (λ h. record { within = h; taking = omega arith }))
+      (pick Good (eqb kind 3) (parameter _ (λ h. record { within = h; taking = omega arith }))
+      (pick Good (eqb kind 4) (bare Elevate (λ h. record { within = h; taking = omega arith }))
+      (pick Good (eqb kind 5) (bare Bounds (λ h. record { within = h; taking = omega arith }))
+      (pick Good (eqb kind 6) (walk _ (λ h. record { within = h; taking = omega arith }))
       invalid)))))))
       invalid
 
@@ -106,15 +110,11 @@ idle-good s status n h = record { within = omega arith; taking = h }
 pub step-good : (s : Session) (input out : List ℕ) → Proper (length input) (effect s input out)
 unfolding effect
 step-good s input out =
-    pick (ltb (length out) lineRoom) (idle-good s NoRoom (length input) tt) (go (eqb (length input) 0) refl)
+    pick (Proper (length input)) (ltb (length out) lineRoom) (idle-good s NoRoom (length input) tt) (go (eqb (length input) 0) refl)
   where
-    pick : (b : Bool) {e f : Effect} → Proper (length input) e → Proper (length input) f → Proper (length input) (cond b e f)
-    pick true g h = g
-    pick false g h = h
-
     go : (b : Bool) → eqb (length input) 0 ≡ b → Proper (length input) (cond b (idle s Ended) (cond (s .active) (callStep s (requestOf input)) (cardStep s input)))
     go true h = idle-good s Ended (length input) tt
-    go false h = pick (s .active) (request-good s input) (card-good s input (eqb-false (length input) 0 h))
+    go false h = pick (Proper (length input)) (s .active) (request-good s input) (card-good s input (eqb-false (length input) 0 h))
 
 pub progress : Progress
 progress s input out =

@@ -1,7 +1,9 @@
--- Laws of the numbers in a call line: a range by its two tests, and a number in range in its machine type.
+-- Laws of the numbers in a call line: a range by its two tests, and a number in range in 32 bits.
 -- Assumes nothing.
-use mathlib.Core.Path.{_≡_, ap, ap₂}
-use mathlib.Core.Bool.{Bool, true, false, _&&_, false≢true}
+use mathlib.Core.Path.{_≡_, refl}
+use mathlib.Core.Bool.{Bool, true, false, cond, false≢true}
+use mathlib.Core.List.{List}
+use Prim.Native.Nat.{ℕ}
 use native.Mathlib.Omega.{arith}
 use lib.Dec.{T}
 use lib.IntN.{ℤ, pos, negsuc, natAbs}
@@ -9,43 +11,53 @@ use lib.Signed.{leZ, nonNeg}
 use borrow.Author.Tests.{leb-true}
 use mir.Syntax.{w32}
 use mir.Val.{Fits, SFits}
-use Rattle.replay_steps.specs.Request.{between, noWord, wordOf, noSide, sideOf}
+use Rattle.columns.specs.declared.Column.{Column}
+use Rattle.columns.specs.declared.Column.the-variants.{Number, Malformed}
+use Rattle.columns.specs.Column.{readAt}
+use Rattle.columns.proofs.Decode.{both}
+use Rattle.replay_steps.specs.Request.{between, noField, fieldOf, fieldIn, fieldAt}
 
 -- ---- a range by its two tests
 
 module _ (low high z : ℤ) where
-  pub in-range : leZ low z ≡ true → leZ z high ≡ true → between low high z ≡ true
-  in-range a b = ap₂ _&&_ a b
+  pub in-range : leZ low z ≡ true → leZ z high ≡ true → record { ok = true; value = z } ≡ fieldOf low high z
+  unfolding fieldOf
+  in-range a b = rw (a, b)
 
-  pub below : leZ low z ≡ false → between low high z ≡ false
-  below a = ap (λ (t : Bool). t && leZ z high) a
+  pub below : leZ low z ≡ false → noField ≡ fieldOf low high z
+  unfolding fieldOf
+  below a = rw a
 
-  pub above : leZ low z ≡ true → leZ z high ≡ false → between low high z ≡ false
-  above a b = ap₂ _&&_ a b
+  pub above : leZ low z ≡ true → leZ z high ≡ false → noField ≡ fieldOf low high z
+  unfolding fieldOf
+  above a b = rw (a, b)
 
--- ---- a number in range, and one that is not
+-- ---- a number that was read
 
-module _ (z : ℤ) where
-  pub word-in : between (pos 0) (pos 4294967295) z ≡ true → record { ok = true; value = natAbs z } ≡ wordOf z
-  unfolding wordOf
-  word-in e = rw e
+-- what holds of 0 and of each number in the range holds of the field's value
+pub field-holds : (P : ℤ → Type 0) (low high : ℤ) → P (pos 0) → ((z : ℤ) → leZ low z ≡ true → leZ z high ≡ true → P z) →
+    (bytes : List ℕ) (at : ℕ) → P (fieldAt low high bytes at .value)
+unfolding fieldAt fieldOf
+field-holds P low high none some bytes at = go (readAt bytes at)
+  where
+    pick : (z : ℤ) (b : Bool) → between low high z ≡ b → P (cond b (record { ok = true; value = z }) noField .value)
+    pick z true e = let (l, h) = both (leZ low z) (leZ z high) e in some z l h
+    pick z false e = none
 
-  pub word-out : between (pos 0) (pos 4294967295) z ≡ false → noWord ≡ wordOf z
-  unfolding wordOf
-  word-out e = rw e
+    go : (c : Column) → P (fieldIn low high c .value)
+    go (Number z) = pick z (between low high z) refl
+    go Malformed = none
 
-  pub side-in : between (negsuc 2147483647) (pos 2147483647) z ≡ true → record { ok = true; value = z } ≡ sideOf z
-  unfolding sideOf
-  side-in e = rw e
+pub word-fits : (bytes : List ℕ) (at : ℕ) → let z = fieldAt (pos 0) (pos 4294967295) bytes at .value in T (nonNeg z) × Fits w32 (natAbs z)
+word-fits = field-holds (λ z. T (nonNeg z) × Fits w32 (natAbs z)) (pos 0) (pos 4294967295) (tt, record { fits = omega arith }) small
+  where
+    small : (z : ℤ) → leZ (pos 0) z ≡ true → leZ z (pos 4294967295) ≡ true → T (nonNeg z) × Fits w32 (natAbs z)
+    small (pos n) low high = (tt, record { fits = omega (arith, leb-true n 4294967295 high) })
+    small (negsuc n) low high = absurd (false≢true low)
 
-  pub side-out : between (negsuc 2147483647) (pos 2147483647) z ≡ false → noSide ≡ sideOf z
-  unfolding sideOf
-  side-out e = rw e
-
-pub word-fits : (z : ℤ) → leZ (pos 0) z ≡ true → leZ z (pos 4294967295) ≡ true → T (nonNeg z) × Fits w32 (natAbs z)
-word-fits (pos n) low high = (tt, record { fits = omega (arith, leb-true n 4294967295 high) })
-word-fits (negsuc n) low high = absurd (false≢true low)
-
-pub side-fits : (z : ℤ) → leZ (negsuc 2147483647) z ≡ true → leZ z (pos 2147483647) ≡ true → SFits w32 z
-side-fits (pos n) low high = record { sfits = omega (arith, leb-true n 2147483647 high) }
-side-fits (negsuc n) low high = record { sfits = omega (arith, leb-true n 2147483647 low) }
+pub side-fits : (bytes : List ℕ) (at : ℕ) → SFits w32 (fieldAt (negsuc 2147483647) (pos 2147483647) bytes at .value)
+side-fits = field-holds (SFits w32) (negsuc 2147483647) (pos 2147483647) (record { sfits = omega arith }) small
+  where
+    small : (z : ℤ) → leZ (negsuc 2147483647) z ≡ true → leZ z (pos 2147483647) ≡ true → SFits w32 z
+    small (pos n) low high = record { sfits = omega (arith, leb-true n 2147483647 high) }
+    small (negsuc n) low high = record { sfits = omega (arith, leb-true n 2147483647 low) }

@@ -13,7 +13,7 @@ use Rattle.columns.specs.Column.{readBytes, readAt}
 use Rattle.curve.specs.Limits.{maxDegree}
 use Rattle.card_text.specs.Card.{cardLength}
 use Rattle.replay_steps.specs.declared.Session.{Session}
-use Rattle.replay_steps.specs.Request.{wordIn, sideIn, wordAt, sideAt, endsAt, endsLine, parameterAt, walkAt, requestBy, requestOf}
+use Rattle.replay_steps.specs.Request.{fieldAt, wordAt, sideAt, endsAt, endsLine, parameterAt, walkAt, requestBy, requestOf}
 use Rattle.replay_steps.specs.Step.{cardSize, cardAt, cardStep, effect}
 use Rattle.replay_steps.specs.Promises.{window, WindowEnough}
 
@@ -33,12 +33,12 @@ module _ (bytes : List ℕ) where
   read-same at h = ap readBytes (ten-same at window bytes h)
 
   word-same : (at : ℕ) → at + 10 ≤ window → wordAt seen at ≡ wordAt bytes at
-  unfolding wordAt
-  word-same at h = ap wordIn (read-same at h)
+  unfolding wordAt fieldAt
+  word-same at h = rw (read-same at h)
 
   side-same : (at : ℕ) → at + 10 ≤ window → sideAt seen at ≡ sideAt bytes at
-  unfolding sideAt
-  side-same at h = ap sideIn (read-same at h)
+  unfolding sideAt fieldAt
+  side-same at h = rw (read-same at h)
 
   ends-same : (at : ℕ) → at + 20 ≤ window → endsAt seen at ≡ endsAt bytes at
   unfolding endsAt

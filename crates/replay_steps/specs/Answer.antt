@@ -2,35 +2,37 @@
 -- Assumes nothing.
 use mathlib.Core.Bool.{Bool, true, false, cond}
 use mathlib.Core.List.{List, [], _∷_, _++_}
-use Prim.Native.Nat.{ℕ, zero, suc, _+_}
+use Prim.Native.Nat.{ℕ, zero, suc, _+_, _*_}
 use lib.Dec.{eqb}
 use lib.IntN.{ℤ, pos}
 use Rattle.curve.specs.declared.Curve.{Curve}
 use Rattle.curve.specs.declared.Rect.{Rect}
 use Rattle.curve.specs.declared.Refusal.{Refusal}
+use Rattle.curve.specs.Limits.{places}
 use Rattle.curve.specs.Curve.{point}
 use Rattle.curve.specs.Calls.{evaluated, subdivided, elevated, bounded}
-use Rattle.search.specs.Verdict.{reported}
+use Rattle.card_text.specs.Card.{sides}
+use Rattle.search.specs.Verdict.{Report, reported}
 use Rattle.search.specs.Search.{searched}
 use Rattle.ledger.specs.Ledger.{Piece, left, right, kept}
 use Rattle.replay_steps.specs.declared.Case.{Case}
-use Rattle.replay_steps.specs.Line.{added, capped}
+use Rattle.replay_steps.specs.Counts.{added, capped}
 
 -- what a call leaves and shows
 pub record Answer : Type 0 where
   pub case : Case
   pub numbers : List ℤ
 
--- ---- rectangles as numbers
+-- the numbers of the longest answer, a cut at the highest degree: a 0, the degree, and eight sides for each place of the record
+abbrev pub capacity : ℕ
+capacity = 2 + 8 * places
 
--- a rectangle's four sides in their order, and then some numbers
-abbrev pub sidesThen : Rect → List ℤ → List ℤ
-sidesThen p more = p .resistance .low ∷ p .resistance .high ∷ p .reactance .low ∷ p .reactance .high ∷ more
+-- ---- rectangles as numbers
 
 -- the sides of the first m rectangles
 unfoldable pub sidesTo : ℕ → (ℕ → Rect) → List ℤ
 sidesTo zero P = []
-sidesTo (suc m) P = sidesTo m P ++ sidesThen (P m) []
+sidesTo (suc m) P = sidesTo m P ++ sides (P m)
 
 -- the sides of a curve's rectangles 0 to n
 abbrev pub sidesOf : Curve → List ℤ
@@ -50,7 +52,7 @@ answering s r next results = cond (eqb (r .number) 0) (record { case = next; num
 unfoldable pub evaluation : Case → ℕ → ℕ → Answer
 evaluation s num den =
     let e = evaluated (s .curve) num den in
-    answering s (e .refusal) s (sidesThen (e .load) (capped (s .sum + s .curve .degree) ∷ []))
+    answering s (e .refusal) s (sides (e .load) ++ (capped (s .sum + s .curve .degree) ∷ []))
 
 -- the piece that is kept
 abbrev pub pieceOf : Bool → Piece
@@ -77,11 +79,14 @@ elevation s =
 unfoldable pub enclosure : Case → Answer
 enclosure s =
     let b = bounded (s .curve) in
-    answering s (b .refusal) s (sidesThen (b .rect) [])
+    answering s (b .refusal) s (sides (b .rect))
 
--- a walk over a box: the verdict's number, depth, index and count
+-- a verdict's number, depth, index and count
+abbrev pub reportNumbers : Report → List ℤ
+reportNumbers v = pos (v .number) ∷ pos (v .depth) ∷ pos (v .index) ∷ pos (v .count) ∷ []
+
+-- a walk over a box: its verdict
 unfoldable pub verdict : Case → Rect → ℕ → ℕ → Answer
 verdict s limits depth budget =
     let a = searched (s .curve) limits depth budget in
-    let v = reported (a .verdict) in
-    answering s (a .refusal) s (pos (v .number) ∷ pos (v .depth) ∷ pos (v .index) ∷ pos (v .count) ∷ [])
+    answering s (a .refusal) s (reportNumbers (reported (a .verdict)))

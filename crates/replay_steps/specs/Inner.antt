@@ -2,50 +2,52 @@
 -- Assumes nothing.
 use mathlib.Core.Path.{_≡_}
 use mathlib.Core.Bool.{Bool, true}
-use mathlib.Core.List.{List, [], _∷_}
-use Prim.Native.Nat.{ℕ}
-use lib.IntN.{ℤ}
-use lib.ListN.{length}
-use Rattle.columns.specs.Column.{fitsColumn}
-use Rattle.card_text.specs.Inner.{placed}
-use Rattle.search.specs.declared.Verdict.{Verdict}
-use Rattle.search.specs.Verdict.{reported}
+use mathlib.Core.List.{List, _++_}
+use Prim.Native.Nat.{ℕ, _+_, _≤_}
+use lib.IntN.{ℤ, pos}
+use lib.ListN.{length, take, replicate}
+use Rattle.columns.specs.Line.{allFit}
+use Rattle.replay_steps.specs.declared.Case.{Case}
 use Rattle.replay_steps.specs.declared.Stepped.{Stepped}
 use Rattle.replay_steps.specs.declared.Status.the-variants.{Done}
 use Rattle.replay_steps.specs.declared.answers.Reply.{Reply}
-use Rattle.replay_steps.specs.declared.answers.Report.{Report}
-use Rattle.replay_steps.specs.Line.{line, added}
-use Rattle.replay_steps.specs.Answer.{Answer}
+use Rattle.replay_steps.specs.declared.numbers.Numbers.{Numbers}
+use Rattle.replay_steps.specs.Counts.{added}
+use Rattle.replay_steps.specs.Answer.{Answer, capacity}
 use Rattle.replay_steps.specs.Step.{Effect, stepped, written}
 
--- each of the numbers fits a column
-abbrev pub Fitting : List ℤ → Type 0
-Fitting [] = Unit {0}
-Fitting (z ∷ zs) = (fitsColumn z ≡ true) × Fitting zs
+-- the numbers that are gathered
+abbrev pub listed : Numbers → List ℤ
+listed n = take (n .count) (n .values)
 
--- what is handed on of an answer: the case, and the length of its line
-abbrev pub replied : Answer → Reply
-replied a = record { case = a .case; written = length (line (a .numbers)) }
+abbrev pub noNumbers : Numbers
+noNumbers = record { values = replicate capacity (pos 0); count = 0 }
 
--- an answer is handed on, and its line stands in front
-pub record Replied (a : Answer) (before : List ℕ) (r : Reply) (after : List ℕ) : Type 0 where
-  pub reply : r ≡ replied a
-  pub text : after ≡ placed before 0 (line (a .numbers))
+-- the numbers n with more behind them
+pub record Grown (n : Numbers) (more : List ℤ) (r : Numbers) : Type 0 where
+  pub size : length (r .values) ≡ capacity
+  pub count : r .count ≡ n .count + length more
+  pub values : listed r ≡ listed n ++ more
 
--- a verdict's number and values
-abbrev pub reportBy : ℕ → ℕ → ℕ → ℕ → Report
-reportBy number depth index count = record { number = number; depth = depth; index = index; count = count }
+-- the numbers of a reply can be written
+pub record Ready (r : Reply) : Type 0 where
+  pub size : length (r .numbers .values) ≡ capacity
+  pub few : r .numbers .count ≤ capacity
+  pub fit : allFit (listed (r .numbers)) ≡ true
 
-abbrev pub reportOf : Verdict → Report
-reportOf v = let r = reported v in reportBy (r .number) (r .depth) (r .index) (r .count)
+-- a reply is an answer's, and can be written
+pub record Replied (a : Answer) (r : Reply) : Type 0 where
+  pub case : r .case ≡ a .case
+  pub numbers : listed (r .numbers) ≡ a .numbers
+  pub ready : Ready r
 
--- a line is done: the case of a reply, so many bytes further
-abbrev pub passedBy : ℕ → ℕ → Bool → Reply → Stepped
-passedBy offset consumed active r =
+-- a line is done: a case, so many bytes further
+abbrev pub passedBy : ℕ → ℕ → Bool → Case → ℕ → Stepped
+passedBy offset consumed active case written =
     record {
-      session = record { case = r .case; active = active; offset = added offset consumed };
+      session = record { case = case; active = active; offset = added offset consumed };
       consumed = consumed;
-      written = r .written;
+      written = written;
       status = Done;
     }
 

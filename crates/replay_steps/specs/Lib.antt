@@ -1,4 +1,4 @@
-pub mod Line
+pub mod Counts
 pub mod Request
 pub mod Answer
 pub mod Step

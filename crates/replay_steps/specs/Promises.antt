@@ -2,21 +2,20 @@
 -- Assumes nothing.
 use mathlib.Core.Path.{_≡_}
 use mathlib.Core.Bool.{true, false}
-use mathlib.Core.List.{List, [], _∷_}
+use mathlib.Core.List.{List, [], _∷_, _++_, foldl}
 use Prim.Native.Nat.{ℕ, _+_, _≤_, _<_, min}
 use lib.IntN.{pos}
 use lib.ListN.{length, take}
 use Rattle.curve.specs.declared.Curve.{Curve}
-use Rattle.curve.specs.Limits.{maxDegree}
 use Rattle.curve.specs.Refusals.{Accepted, AcceptedAt}
 use Rattle.curve.specs.Calls.{evaluated}
-use Rattle.card_text.specs.Card.{cardLength}
+use Rattle.card_text.specs.Card.{sides, longestCard}
 use Rattle.ledger.specs.Ledger.{Ledger, Call, reading, cut, raising, left, right, opened, after, leaves}
 use Rattle.replay_steps.specs.declared.Case.{Case}
 use Rattle.replay_steps.specs.declared.Session.{Session}
 use Rattle.replay_steps.specs.declared.Status.the-variants.{Done}
-use Rattle.replay_steps.specs.Line.{largest, capped}
-use Rattle.replay_steps.specs.Answer.{Answer, sidesThen, evaluation, subdivision, elevation}
+use Rattle.replay_steps.specs.Counts.{largest, capped}
+use Rattle.replay_steps.specs.Answer.{Answer, evaluation, subdivision, elevation}
 use Rattle.replay_steps.specs.Step.{effect}
 
 -- ---- the input
@@ -29,7 +28,7 @@ Progress =
 
 -- the bytes that a step looks at: the longest card
 abbrev pub window : ℕ
-window = cardLength maxDegree
+window = longestCard
 
 -- what lies behind those changes nothing
 abbrev pub WindowEnough : Type 0
@@ -44,18 +43,9 @@ answerTo s (cut num den left) = subdivision s num den false
 answerTo s (cut num den right) = subdivision s num den true
 answerTo s raising = elevation s
 
--- a case, a curve and a ledger after a list of calls
-unfoldable pub caseAfter : Case → List Call → Case
-caseAfter s [] = s
-caseAfter s (call ∷ calls) = caseAfter (answerTo s call .case) calls
-
-unfoldable pub curveAfter : Curve → List Call → Curve
-curveAfter c [] = c
-curveAfter c (call ∷ calls) = curveAfter (leaves c call) calls
-
-unfoldable pub ledgerAfter : Ledger → List Call → Ledger
-ledgerAfter l [] = l
-ledgerAfter l (call ∷ calls) = ledgerAfter (after l call) calls
+-- and the case that it leaves
+abbrev pub caseAfter : Case → Call → Case
+caseAfter s call = answerTo s call .case
 
 -- the case has the curve that the calls leave and the ledger's sum, up to the largest number; an accepted reading shows the ledger's sum with its degree
 pub record Follows (now : Curve) (l : Ledger) (s : Case) : Type 0 where
@@ -63,10 +53,10 @@ pub record Follows (now : Curve) (l : Ledger) (s : Case) : Type 0 where
   pub sum : s .sum ≡ min (l .sum) largest
   pub shown :
       (num den : ℕ) → AcceptedAt num den →
-      evaluation s num den .numbers ≡ pos 0 ∷ sidesThen (evaluated now num den .load) (capped (l .sum + l .degree) ∷ [])
+      evaluation s num den .numbers ≡ pos 0 ∷ (sides (evaluated now num den .load) ++ (capped (l .sum + l .degree) ∷ []))
 
 -- so it is along every list of calls from an accepted curve
 abbrev pub KeepsLedger : Type 0
 KeepsLedger =
     (c : Curve) → Accepted c → (calls : List Call) →
-    Follows (curveAfter c calls) (ledgerAfter (opened c) calls) (caseAfter (record { curve = c; sum = 0 }) calls)
+    Follows (foldl leaves c calls) (foldl after (opened c) calls) (foldl caseAfter (record { curve = c; sum = 0 }) calls)

@@ -10,7 +10,8 @@ use lib.Signed.{leZ}
 use Rattle.columns.specs.declared.Column.{Column}
 use Rattle.columns.specs.declared.Column.the-variants.{Number, Malformed}
 use Rattle.columns.specs.Column.{readAt}
-use Rattle.card_text.specs.Card.{newline}
+use Rattle.columns.specs.Line.{newline}
+use Rattle.replay_steps.specs.declared.fields.Field.{Field}
 use Rattle.replay_steps.specs.declared.fields.Word.{Word}
 use Rattle.replay_steps.specs.declared.fields.Side.{Side}
 use Rattle.replay_steps.specs.declared.fields.Ends.{Ends}
@@ -26,35 +27,29 @@ abbrev pub between : ℤ → ℤ → ℤ → Bool
 between low high z = leZ low z && leZ z high
 
 -- no number
-abbrev pub noWord : Word
-noWord = record { ok = false; value = 0 }
+abbrev pub noField : Field
+noField = record { ok = false; value = pos 0 }
+
+-- a number from low to high
+unfoldable pub fieldOf : ℤ → ℤ → ℤ → Field
+fieldOf low high z = cond (between low high z) (record { ok = true; value = z }) noField
+
+-- what stands in a column as such a number
+abbrev pub fieldIn : ℤ → ℤ → Column → Field
+fieldIn low high (Number z) = fieldOf low high z
+fieldIn low high Malformed = noField
+
+-- the number from low to high in the column at an offset
+unfoldable pub fieldAt : ℤ → ℤ → List ℕ → ℕ → Field
+fieldAt low high bytes at = fieldIn low high (readAt bytes at)
 
 -- a number from 0 to 4,294,967,295
-unfoldable pub wordOf : ℤ → Word
-wordOf z = cond (between (pos 0) (pos 4294967295) z) (record { ok = true; value = natAbs z }) noWord
-
-abbrev pub noSide : Side
-noSide = record { ok = false; value = pos 0 }
+unfoldable pub wordAt : List ℕ → ℕ → Word
+wordAt bytes at = let f = fieldAt (pos 0) (pos 4294967295) bytes at in record { ok = f .ok; value = natAbs (f .value) }
 
 -- a number from −2,147,483,648 to 2,147,483,647; `negsuc n` is −(n + 1)
-unfoldable pub sideOf : ℤ → Side
-sideOf z = cond (between (negsuc 2147483647) (pos 2147483647) z) (record { ok = true; value = z }) noSide
-
--- what stands in a column as a number of either range
-abbrev pub wordIn : Column → Word
-wordIn (Number z) = wordOf z
-wordIn Malformed = noWord
-
-abbrev pub sideIn : Column → Side
-sideIn (Number z) = sideOf z
-sideIn Malformed = noSide
-
--- the number in the column at an offset
-unfoldable pub wordAt : List ℕ → ℕ → Word
-wordAt bytes at = wordIn (readAt bytes at)
-
 unfoldable pub sideAt : List ℕ → ℕ → Side
-sideAt bytes at = sideIn (readAt bytes at)
+sideAt bytes at = let f = fieldAt (negsuc 2147483647) (pos 2147483647) bytes at in record { ok = f .ok; value = f .value }
 
 -- the interval whose two columns begin at an offset
 unfoldable pub endsAt : List ℕ → ℕ → Ends
@@ -94,7 +89,10 @@ walkAt bytes =
 abbrev pub shaped : Bool → Request → Request
 shaped ok request = cond ok request Invalid
 
--- the request of a reading, of a cut and of a walk over a box
+-- the request of a call that has nothing behind its number, of a reading, of a cut and of a walk over a box
+abbrev pub bareAt : List ℕ → Request → Request
+bareAt bytes request = shaped (endsLine bytes 10) request
+
 abbrev pub evaluateAt : List ℕ → Request
 evaluateAt bytes = let p = parameterAt bytes in shaped (p .ok) (Evaluate (p .num) (p .den))
 
@@ -107,12 +105,12 @@ searchAt bytes = let w = walkAt bytes in shaped (w .ok) (Search (w .limits) (w .
 -- the request by the number of the call
 unfoldable pub requestBy : List ℕ → ℕ → Request
 requestBy bytes kind =
-    cond (eqb kind 0) (shaped (endsLine bytes 10) Close)
+    cond (eqb kind 0) (bareAt bytes Close)
     (cond (eqb kind 1) (evaluateAt bytes)
     (cond (eqb kind 2) (subdivideAt bytes false)
     (cond (eqb kind 3) (subdivideAt bytes true)
-    (cond (eqb kind 4) (shaped (endsLine bytes 10) Elevate)
-    (cond (eqb kind 5) (shaped (endsLine bytes 10) Bounds)
+    (cond (eqb kind 4) (bareAt bytes Elevate)
+    (cond (eqb kind 5) (bareAt bytes Bounds)
     (cond (eqb kind 6) (searchAt bytes)
     Invalid))))))
 

@@ -2,12 +2,13 @@
 -- Assumes nothing.
 use mathlib.Core.Bool.{Bool, true, false, cond, _||_}
 use mathlib.Core.List.{List, [], _∷_, _++_}
-use Prim.Native.Nat.{ℕ, _+_, _*_}
+use Prim.Native.Nat.{ℕ}
 use lib.Dec.{leb, ltb, eqb}
 use lib.IntN.{pos}
 use lib.ListN.{length, take, drop}
+use Rattle.columns.specs.Line.{line, lineLength}
 use Rattle.curve.specs.declared.Refusal.{Refusal}
-use Rattle.curve.specs.Limits.{maxDegree, places}
+use Rattle.curve.specs.Limits.{maxDegree}
 use Rattle.curve.specs.Curve.{zeroCurve}
 use Rattle.card_text.specs.declared.CardRead.{CardRead}
 use Rattle.card_text.specs.Card.{cardLength}
@@ -19,9 +20,9 @@ use Rattle.replay_steps.specs.declared.Status.the-variants.{Done, Ended,
 use Rattle.replay_steps.specs.declared.Stepped.{Stepped}
 use Rattle.replay_steps.specs.declared.request.Request.{Request}
 use Rattle.replay_steps.specs.declared.request.Request.the-variants.{Invalid, Close, Evaluate, Subdivide, Elevate, Bounds, Search}
-use Rattle.replay_steps.specs.Line.{line, lineLength, added, capped}
+use Rattle.replay_steps.specs.Counts.{added, capped}
 use Rattle.replay_steps.specs.Request.{wordAt, requestOf}
-use Rattle.replay_steps.specs.Answer.{Answer, answering, evaluation, subdivision, elevation, enclosure, verdict}
+use Rattle.replay_steps.specs.Answer.{Answer, capacity, answering, evaluation, subdivision, elevation, enclosure, verdict}
 
 -- what a step does: the session that it leaves, the bytes that it takes, what it met, and the text that it writes
 pub record Effect : Type 0 where
@@ -99,9 +100,9 @@ callStep s (Search limits depth budget) = answered s (lineLength 7) (verdict (s 
 
 -- ---- the step
 
--- the bytes that the longest answer takes: a cut at the highest degree, with eight sides for each place of the record
+-- the bytes that the longest answer takes
 abbrev pub lineRoom : ℕ
-lineRoom = lineLength (2 + 8 * places)
+lineRoom = lineLength capacity
 
 -- what a step on some input does, by the room in the buffer, by whether there is input, and by whether a case has begun
 unfoldable pub effect : Session → List ℕ → List ℕ → Effect

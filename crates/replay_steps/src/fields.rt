@@ -1,22 +1,25 @@
 // The parts of a call line: numbers within a range, intervals, and the line's end.
 ghost use mathlib.Core.Path.{_≡_};
-ghost use mathlib.Core.Bool.{_&&_};
 ghost use Prim.Native.Nat.{_≤_};
-ghost use Rattle.replay_steps.specs.Request.{wordOf, sideOf, wordAt, sideAt, endsAt, endsLine};
+ghost use Rattle.replay_steps.specs.Request.{fieldOf, fieldAt, wordAt, sideAt, endsAt, endsLine};
 use columns::Column;
+use columns::NEWLINE;
 use columns::read_column;
 use curve::Interval;
 
-// The byte that ends a line.
-pub const NEWLINE: u8 = 10;
+// A number within a range; value 0 where there is none.
+struct Field {
+    ok: bool,
+    value: i64,
+}
 
-// A number from 0 to 4,294,967,295; value 0 where it is none.
+// The same in 32 bits, without a sign.
 pub struct Word {
     pub ok: bool,
     pub value: u32,
 }
 
-// A number from -2,147,483,648 to 2,147,483,647; value 0 where it is none.
+// The same in 32 bits, with a sign.
 struct Side {
     ok: bool,
     value: i32,
@@ -28,68 +31,52 @@ pub struct Ends {
     pub interval: Interval,
 }
 
-fn word_of(value: i64) -> Word
-    ensures { λ r. ⌜ r ≡ wordOf value ⌝ }
+// A number, where it is from low to high.
+fn field_of(value: i64, low: i64, high: i64) -> Field
+    ensures { λ r. ⌜ r ≡ fieldOf low high value ⌝ }
 {
-    if 0 <= value && value <= 4_294_967_295 {
-        return Word {
-            ok: true,
-            value: value as u32,
-        };
+    if low <= value && value <= high {
+        return Field { ok: true, value };
     }
-    Word {
+    Field {
         ok: false,
         value: 0,
     }
 }
 
-fn side_of(value: i64) -> Side
-    ensures { λ r. ⌜ r ≡ sideOf value ⌝ }
+// The number in the column at an offset, where it is from low to high.
+fn field_at(input: &[u8], at: usize, low: i64, high: i64) -> Field
+    ensures { λ r. ⌜ r ≡ fieldAt low high (now (input .entry)) at ⌝ }
 {
-    if -2_147_483_648 <= value && value <= 2_147_483_647 {
-        return Side {
-            ok: true,
-            value: value as i32,
-        };
-    }
-    Side {
-        ok: false,
-        value: 0,
+    let column = read_column(input, at);
+    match column {
+        Column::Number(value) => field_of(value, low, high),
+        Column::Malformed => Field {
+            ok: false,
+            value: 0,
+        },
     }
 }
 
-// Whether both hold.
-pub fn both(a: bool, b: bool) -> bool
-    ensures { λ r. ⌜ r ≡ (a && b) ⌝ }
-{
-    a && b
-}
-
-// The number from 0 in the column at an offset.
+// The number from 0 to 4,294,967,295 in the column at an offset.
 pub fn word_at(input: &[u8], at: usize) -> Word
     ensures { λ r. ⌜ r ≡ wordAt (now (input .entry)) at ⌝ }
 {
-    let column = read_column(input, at);
-    match column {
-        Column::Number(value) => word_of(value),
-        Column::Malformed => Word {
-            ok: false,
-            value: 0,
-        },
+    let field = field_at(input, at, 0, 4_294_967_295);
+    Word {
+        ok: field.ok,
+        value: field.value as u32,
     }
 }
 
-// The number of either sign in the column at an offset.
+// The number from -2,147,483,648 to 2,147,483,647 in the column at an offset.
 fn side_at(input: &[u8], at: usize) -> Side
     ensures { λ r. ⌜ r ≡ sideAt (now (input .entry)) at ⌝ }
 {
-    let column = read_column(input, at);
-    match column {
-        Column::Number(value) => side_of(value),
-        Column::Malformed => Side {
-            ok: false,
-            value: 0,
-        },
+    let field = field_at(input, at, -2_147_483_648, 2_147_483_647);
+    Side {
+        ok: field.ok,
+        value: field.value as i32,
     }
 }
 
@@ -101,7 +88,7 @@ pub fn ends_at(input: &[u8], at: usize) -> Ends
     let low = side_at(input, at);
     let high = side_at(input, at + 10);
     Ends {
-        ok: both(low.ok, high.ok),
+        ok: low.ok & high.ok,
         interval: Interval {
             low: low.value,
             high: high.value,

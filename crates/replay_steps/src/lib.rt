@@ -1,7 +1,9 @@
 // A list of calls from cards, one step at a time: a card or a call line is taken from the front of some bytes, and its answer is written.
 ghost use mathlib.Core.Path.{_≡_};
-ghost use Prim.Native.Nat.{_≤_};
+ghost use mathlib.Core.Bool.{true};
+ghost use Prim.Native.Nat.{_*_, _≤_, _<_};
 ghost use lib.ListN.{length};
+ghost use Rattle.columns.specs.Line.{placed, line, allFit};
 ghost use Rattle.replay_steps.specs.Step.{
   started,
   idle,
@@ -17,22 +19,23 @@ ghost use Rattle.replay_steps.specs.Step.{
   stepped,
   written,
 };
-ghost use Rattle.replay_steps.specs.Inner.{passedBy, Replied, Wrote};
+ghost use Rattle.replay_steps.specs.Inner.{listed, passedBy, Ready, Replied, Wrote};
 
 mod answers;
 mod fields;
+mod numbers;
 mod request;
-mod write;
 
 use answers::Reply;
-use answers::added;
-use answers::capped;
+use answers::answering;
 use answers::elevation;
 use answers::enclosure;
 use answers::evaluation;
-use answers::refused;
 use answers::subdivision;
 use answers::verdict;
+use card_text::LONGEST_CARD;
+use card_text::card_length;
+use columns::put_line;
 use curve::Curve;
 use curve::Interval;
 use curve::MAX_DEGREE;
@@ -40,14 +43,12 @@ use curve::PLACES;
 use curve::Rect;
 use curve::Refusal;
 use fields::word_at;
+use numbers::CAPACITY;
+use numbers::added;
+use numbers::capped;
+use numbers::numbers_of;
 use request::Request;
 use request::request_of;
-use write::write_line;
-
-// The bytes of a card's first line, and of each other line.
-const HEADER_LENGTH: usize = 11;
-
-const ROW_LENGTH: usize = 41;
 
 // The bytes of a line of one, of three and of seven columns.
 const LINE_OF_1: usize = 11;
@@ -57,10 +58,10 @@ const LINE_OF_3: usize = 31;
 const LINE_OF_7: usize = 71;
 
 // The bytes that a step looks at: the longest card.
-pub const WINDOW: usize = HEADER_LENGTH + ROW_LENGTH * PLACES;
+pub const WINDOW: usize = LONGEST_CARD;
 
 // The bytes that the longest answer takes: a cut at the highest degree.
-pub const LINE_ROOM: usize = 10 * (2 + 8 * PLACES) + 1;
+pub const LINE_ROOM: usize = 10 * CAPACITY + 1;
 
 // The present curve of a case, and the ledger's sum of steps.
 pub struct Case {
@@ -139,6 +140,16 @@ fn idle(session: Session, status: Status) -> Stepped
     }
 }
 
+// Writes a line to the front of a buffer that has room for it, and answers its length.
+fn write_line(out: &mut [u8], numbers: &[i64]) -> usize
+    requires { ⌜ allFit (now numbers) ≡ true ⌝ }
+    requires { ⌜ 10 * length (now numbers) < length (now out) ⌝ }
+    ensures { λ r. ⌜ (r ≡ length (line (now (numbers .entry)))) × (now (out .exit) ≡ placed (now (out .entry)) 0 (line (now (numbers .entry)))) ⌝ }
+{
+    put_line(out, 0, numbers);
+    10 * numbers.len() + 1
+}
+
 // A malformed line ends the run: 99 and its offset.
 fn stopped(session: Session, out: &mut [u8]) -> Stepped
     requires { ⌜ lineRoom ≤ length (now out) ⌝ }
@@ -156,10 +167,9 @@ fn stopped(session: Session, out: &mut [u8]) -> Stepped
 }
 
 // A line is done: the session so many bytes further.
-fn passed(offset: u64, consumed: usize, active: bool, reply: Reply) -> Stepped
-    ensures { λ r. ⌜ r ≡ passedBy offset consumed active reply ⌝ }
+fn passed(offset: u64, consumed: usize, active: bool, case: Case, written: usize) -> Stepped
+    ensures { λ r. ⌜ r ≡ passedBy offset consumed active case written ⌝ }
 {
-    let case = reply.case;
     Stepped {
         session: Session {
             case,
@@ -167,9 +177,23 @@ fn passed(offset: u64, consumed: usize, active: bool, reply: Reply) -> Stepped
             offset: added(offset, consumed as u64),
         },
         consumed,
-        written: reply.written,
+        written,
         status: Status::Done,
     }
+}
+
+// A line is done inside a case, and its answer is written.
+fn answered(offset: u64, consumed: usize, reply: Reply, out: &mut [u8]) -> Stepped
+    requires { ⌜ Ready reply ⌝ }
+    requires { ⌜ lineRoom ≤ length (now out) ⌝ }
+    ensures { λ r. ⌜ (r ≡ passedBy offset consumed true (reply .case) (length (line (listed (reply .numbers))))) × (now (out .exit) ≡ placed (now (out .entry)) 0 (line (listed (reply .numbers)))) ⌝ }
+{
+    let case = reply.case;
+    let numbers = reply.numbers;
+    let count = numbers.count;
+    let values = numbers.values;
+    let written = write_line(out, &values[..count]);
+    passed(offset, consumed, true, case, written)
 }
 
 // The bytes of the card that begins here, as its degree tells; those of degree 0 where it is none.
@@ -178,9 +202,9 @@ fn card_size(input: &[u8]) -> usize
 {
     let degree = word_at(input, 0).value;
     if degree <= MAX_DEGREE {
-        return HEADER_LENGTH + ROW_LENGTH * (degree as usize + 1);
+        return card_length(degree);
     }
-    HEADER_LENGTH + ROW_LENGTH
+    card_length(0)
 }
 
 // The card at the front of the input.
@@ -208,16 +232,10 @@ fn is_whole(number: u32) -> bool
 }
 
 // A card's line: 0 and the degree, or its refusal.
-fn opening(case: Case, refusal: Refusal, out: &mut [u8]) -> Reply
-    requires { ⌜ lineRoom ≤ length (now out) ⌝ }
-    ensures { λ r. ⌜ Replied (openingBy case refusal) (now (out .entry)) r (now (out .exit)) ⌝ }
+fn opening(case: Case, refusal: Refusal) -> Reply
+    ensures { λ r. ⌜ Replied (openingBy case refusal) r ⌝ }
 {
-    if refusal.number != 0 {
-        return refused(case, refusal, out);
-    }
-    let numbers = [0, case.curve.degree as i64];
-    let written = write_line(out, &numbers);
-    Reply { case, written }
+    answering(case, refusal, case, numbers_of(&[case.curve.degree as i64]))
 }
 
 // A card begins a case.
@@ -234,7 +252,7 @@ fn card_step(session: Session, input: &[u8], out: &mut [u8]) -> Stepped
     }
     let curve = card.curve;
     let case = Case { curve, sum: 0 };
-    passed(session.offset, size, true, opening(case, refusal, out))
+    answered(session.offset, size, opening(case, refusal), out)
 }
 
 // A call line inside a case.
@@ -246,29 +264,19 @@ fn call_step(session: Session, request: Request, out: &mut [u8]) -> Stepped
     let offset = session.offset;
     match request {
         Request::Invalid => stopped(session, out),
-        Request::Close => passed(offset, LINE_OF_1, false, Reply { case, written: 0 }),
+        Request::Close => passed(offset, LINE_OF_1, false, case, 0),
         Request::Evaluate { num, den } => {
-            passed(offset, LINE_OF_3, true, evaluation(case, num, den, out))
+            answered(offset, LINE_OF_3, evaluation(case, num, den), out)
         }
         Request::Subdivide { num, den, right } => {
-            passed(
-                offset,
-                LINE_OF_3,
-                true,
-                subdivision(case, num, den, right, out),
-            )
+            answered(offset, LINE_OF_3, subdivision(case, num, den, right), out)
         }
-        Request::Elevate => passed(offset, LINE_OF_1, true, elevation(case, out)),
-        Request::Bounds => passed(offset, LINE_OF_1, true, enclosure(case, out)),
+        Request::Elevate => answered(offset, LINE_OF_1, elevation(case), out),
+        Request::Bounds => answered(offset, LINE_OF_1, enclosure(case), out),
         Request::Search {
             limits,
             depth,
             budget,
-        } => passed(
-            offset,
-            LINE_OF_7,
-            true,
-            verdict(case, limits, depth, budget, out),
-        ),
+        } => answered(offset, LINE_OF_7, verdict(case, limits, depth, budget), out),
     }
 }

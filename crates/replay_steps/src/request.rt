@@ -4,12 +4,12 @@ ghost use Rattle.replay_steps.specs.Request.{
   parameterAt,
   walkAt,
   shaped,
+  bareAt,
   subdivideAt,
   evaluateAt,
   searchAt,
   requestOf,
 };
-use crate::fields::both;
 use crate::fields::ends_at;
 use crate::fields::ends_line;
 use crate::fields::word_at;
@@ -58,7 +58,7 @@ fn parameter_at(input: &[u8]) -> Parameter
     let num = word_at(input, 10);
     let den = word_at(input, 20);
     Parameter {
-        ok: both(both(num.ok, den.ok), ends_line(input, 30)),
+        ok: num.ok & den.ok & ends_line(input, 30),
         num: num.value,
         den: den.value,
     }
@@ -73,10 +73,8 @@ fn walk_at(input: &[u8]) -> Walk
     let budget = word_at(input, 60);
     let resistance = first.interval;
     let reactance = second.interval;
-    let sides = both(first.ok, second.ok);
-    let numbers = both(both(sides, depth.ok), budget.ok);
     Walk {
-        ok: both(numbers, ends_line(input, 70)),
+        ok: first.ok & second.ok & depth.ok & budget.ok & ends_line(input, 70),
         limits: Rect {
             resistance,
             reactance,
@@ -91,6 +89,13 @@ fn shaped(ok: bool, request: Request) -> Request
     ensures { λ r. ⌜ r ≡ shaped ok request ⌝ }
 {
     if ok { request } else { Request::Invalid }
+}
+
+// The line of a call that has nothing behind its number.
+fn bare_request(input: &[u8], request: Request) -> Request
+    ensures { λ r. ⌜ r ≡ bareAt (now (input .entry)) request ⌝ }
+{
+    shaped(ends_line(input, 10), request)
 }
 
 // A reading's line.
@@ -148,12 +153,12 @@ pub fn request_of(input: &[u8]) -> Request
     }
     let number = kind.value;
     match number {
-        0 => shaped(ends_line(input, 10), Request::Close),
+        0 => bare_request(input, Request::Close),
         1 => evaluate_request(input),
         2 => subdivide_request(input, false),
         3 => subdivide_request(input, true),
-        4 => shaped(ends_line(input, 10), Request::Elevate),
-        5 => shaped(ends_line(input, 10), Request::Bounds),
+        4 => bare_request(input, Request::Elevate),
+        5 => bare_request(input, Request::Bounds),
         6 => walk_request(input),
         _ => Request::Invalid,
     }

@@ -8,6 +8,7 @@ use native.Mathlib.Omega.{arith}
 use lib.ListN.{length, take, drop, length-take, length-drop}
 use lib.Seq.{length-take-le}
 use borrow.Rule.Slice.PartMut.{putMid, same-len-mid}
+use Rattle.columns.proofs.Decode.{both}
 use Rattle.replay_steps.proofs.Progress.{After, after-step}
 use Rattle.replay.proofs.run_window.Statement.{statement}
 use Rattle.replay.proofs.run_window.Tie as tie
@@ -90,7 +91,7 @@ module _ (f : tie.After-step Inv-loop μ-loop) where
   filled =
       let out = here .loop .out in
       let n = room .make-room .result in
-      omega (arith, after .used, room .make-room .ensures, here .loop .inv .1, length-take (length out - n) (drop n out), length-drop n out)
+      omega (arith, after .used, room .make-room .ensures .0, here .loop .inv .1, length-take (length out - n) (drop n out), length-drop n out)
 
   kept : length (putMid (room .make-room .result) (length (here .loop .out) - room .make-room .result) (here .loop .out) (f .step .last .1 .1 .0)) ≡ length (here .loop .out)
   kept = same-len-mid (room .make-room .result) (length (here .loop .out) - room .make-room .result) (here .loop .out) (f .step .last .1 .1 .0) (f .step .kept .1 .1 .0)
@@ -108,7 +109,7 @@ loop-less : tie.Need-loop-less Inv-loop μ-loop
 loop-less c =
     let f = c .before .before .before .before .before .before in
     let t = room f .before .before in
-    falls (c .is-done .result) (here f .loop .more) (length (window f)) (here f .loop .taken) (f .step .result .consumed) (t .before .can-step .ensures (t .if1 .taken)) (λ e. after f .moved (c .is-done .ensures e)) (inside f)
+    falls (c .is-done .result) (here f .loop .more) (length (window f)) (here f .loop .taken) (f .step .result .consumed) (both (here f .loop .more) _ (sym (t .before .can-step .ensures) ∙ t .if1 .taken) .0) (λ e. after f .moved (c .is-done .ensures e)) (inside f)
 
 loop-again : tie.Need-loop-again Inv-loop μ-loop
 loop-again c = let f = c .before .before .before .before .before .before in (inside f, rw (kept f) (filled f), kept f ∙ here f .loop .inv .2)

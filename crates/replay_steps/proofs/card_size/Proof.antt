@@ -1,5 +1,6 @@
 -- `card_size` meets its contract, by whether there is a degree.
 -- Assumes nothing.
+use mathlib.Core.Path.{_∙_}
 use borrow.Author.Tests.{le-leb, lt-leb}
 use Rattle.curve.specs.Limits.{maxDegree}
 use Rattle.replay_steps.specs.Step.{cardSize}
@@ -10,38 +11,21 @@ use Rattle.replay_steps.proofs.card_size.Tie as tie
 word-at-requires : tie.Need-word-at-requires
 word-at-requires c κs = search needs
 
-cast-result : tie.Need-cast-result
-cast-result c = search needs
-
-add-result : tie.Need-add-result
-add-result c = search needs
-
-mul-result : tie.Need-mul-result
-mul-result c = search needs
-
-add-result-2 : tie.Need-add-result-2
-add-result-2 c = search needs
+card-length-requires : tie.Need-card-length-requires
+card-length-requires c κs = search needs
 
 returns : tie.Need-returns
 unfolding cardSize
-returns c = let w = c .before .word-at in rw (← w .ensures, le-leb (w .result .value) maxDegree (c .if1 .taken))
+returns c = let w = c .before .before .word-at in c .card-length .ensures ∙ rw (← w .ensures, le-leb (w .result .value) maxDegree (c .before .if1 .taken))
 
-add-result-3 : tie.Need-add-result-3
-add-result-3 c = search needs
+card-length-requires-2 : tie.Need-card-length-requires-2
+card-length-requires-2 c κs = search needs
 
 returns-2 : tie.Need-returns-2
 unfolding cardSize
-returns-2 c = let w = c .before .word-at in rw (← w .ensures, lt-leb (w .result .value) maxDegree (c .if1 .left))
+returns-2 c = let w = c .before .before .word-at in c .card-length2 .ensures ∙ rw (← w .ensures, lt-leb (w .result .value) maxDegree (c .before .if1 .left))
 
 pub card-size-spec : {M : Type 1} → statement M
 card-size-spec =
     tie.close
-    (tie.spec
-    word-at-requires
-    cast-result
-    add-result
-    mul-result
-    add-result-2
-    returns
-    add-result-3
-    returns-2)
+    (tie.spec word-at-requires card-length-requires returns card-length-requires-2 returns-2)

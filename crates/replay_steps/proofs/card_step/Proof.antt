@@ -38,23 +38,24 @@ returns c =
 opening-requires : tie.Need-opening-requires
 opening-requires c κs = search needs
 
-passed-requires : tie.Need-passed-requires
-passed-requires c κs = search needs
+answered-requires : tie.Need-answered-requires
+answered-requires c κs = search needs
 
 same-length-2 : tie.Need-same-length-2
 same-length-2 c = search needs
 
 returns-2 : tie.Need-returns-2
 returns-2 c =
-    let o = c .before .before .before in
-    let x = o .before .before .before in
+    let f = c .before .before in
+    let o = f .before .before in
+    let x = o .before .before in
     let w = x .before in
     let card = w .before .before in
     let s = card .before .before .before .before in
     let opens = card-opens (s .args .session) (s .args .input .now) _ (card .read-card .result) (card .before .card-at .ensures) (card .read-card .ensures)
     (sym (w .is-whole .ensures) ∙ not-false (w .is-whole .result) (x .if1 .left)) in
-    subst (λ (e : Effect). Wrote e (s .args .out .now) (c .passed .result) (o .opening .last .1 .1 .0)) opens
-    (wrote-answer (s .args .session) _ (opening (card .read-card .result)) (c .passed .ensures) (o .opening .ensures))
+    subst (λ (e : Effect). Wrote e (s .args .out .now) (f .answered .result) (f .answered .last .1 .1 .1 .0)) opens
+    (wrote-answer (s .args .session) _ (opening (card .read-card .result)) (o .opening .ensures) (f .answered .ensures))
 
 pub card-step-spec : {M : Type 1} → statement M
 card-step-spec =
@@ -67,6 +68,6 @@ card-step-spec =
     same-length
     returns
     opening-requires
-    passed-requires
+    answered-requires
     same-length-2
     returns-2)

@@ -1,69 +1,47 @@
--- `opening` meets its contract: a refusal, or a 0 and the degree.
+-- `opening` meets its contract.
 -- Assumes nothing.
-use mathlib.Core.Path.{_≡_, refl, ap, sym, subst}
+use mathlib.Core.Path.{_≡_, subst}
+use mathlib.Core.Bool.{true}
 use mathlib.Core.List.{List, [], _∷_}
 use Prim.Native.Nat.{_<_}
 use native.Mathlib.Omega.{arith}
 use lib.IntN.{ℤ, pos}
-use mir.Syntax.{w64}
-use mir.Val.{toZ}
-use Rattle.replay_steps.specs.Inner.{Fitting}
-use Rattle.replay_steps.proofs.Numbers.{as-signed, number-fits}
-use Rattle.replay_steps.proofs.Replies.{from-line, where-refused, where-accepted}
+use Rattle.columns.specs.Line.{allFit}
+use Rattle.replay_steps.specs.Answer.{answering}
+use Rattle.replay_steps.specs.Inner.{noNumbers, Grown, Replied}
+use Rattle.columns.proofs.Lines.{number-fits}
+use Rattle.replay_steps.proofs.Fitting.{fit-one}
+use Rattle.replay_steps.proofs.Gathered.{one-number, can-answer}
 use borrow.Author.Needs.{needs}
 use Rattle.replay_steps.proofs.opening.Statement.{statement}
 use Rattle.replay_steps.proofs.opening.Tie as tie
 
-refused-requires : tie.Need-refused-requires
-refused-requires c κs = search needs
+cast-t5 : tie.Need-cast-t5
+cast-t5 c = search needs
 
-same-length : tie.Need-same-length
-same-length c = search needs
+slice-aggregate-numbers-of : tie.Need-slice-aggregate-numbers-of
+slice-aggregate-numbers-of c = search needs
+
+numbers-of-requires : tie.Need-numbers-of-requires
+numbers-of-requires c κs = search needs
+
+-- the degree as it is gathered
+degree : (n : tie.After-numbers-of) → let d = n .before .before .before .args .case .curve .degree in Grown noNumbers (pos d ∷ []) (n .numbers-of .result) × (allFit (pos d ∷ []) ≡ true)
+degree n =
+    let k = n .before .before in
+    let d = k .before .args .case .curve .degree in
+    let small : d < 4294967296 = omega (arith, k .struct-known .given) in
+    (one-number d (omega arith) (n .numbers-of .ensures), fit-one (pos d) (number-fits d (omega arith)))
+
+answering-requires : tie.Need-answering-requires
+answering-requires c κs = let (numbers, fit) = degree c in can-answer (c .before .before .before .args .refusal .number) numbers (omega arith) (λ h. fit)
 
 returns : tie.Need-returns
 returns c =
-    let f = c .before .before in
-    let t = f .before .before in
-    where-refused (t .before .before .before .args .case) _ _ refl (t .if1 .taken) (f .refused .ensures)
-
-cast-t9 : tie.Need-cast-t9
-cast-t9 c = search needs
-
-slice-aggregate-write-line : tie.Need-slice-aggregate-write-line
-slice-aggregate-write-line c = search needs
-
--- the two numbers
-small : (p : tie.After-struct-known2) → p .before .before .before .before .args .case .curve .degree < 4294967296
-small p = omega (arith, p .struct-known2 .given)
-
-numbers : (p : tie.After-struct-known2) → let n = p .before .before .before .before .args .case .curve .degree in _≡_ {A = List ℤ} (pos 0 ∷ toZ w64 n ∷ []) (pos 0 ∷ pos n ∷ [])
-numbers p = ap (λ (z : ℤ). pos 0 ∷ z ∷ []) (as-signed (p .before .before .before .before .args .case .curve .degree) (omega (arith, small p)))
-
-write-line-requires : tie.Need-write-line-requires
-write-line-requires c κs =
-    let p = c .before .before in
-    let s = p .before .before .before .before in
-    (subst Fitting (sym (numbers p)) (number-fits 0 (omega arith), (number-fits (s .args .case .curve .degree) (omega (arith, small p)), tt)), omega (arith, s .pre))
-
-same-length-2 : tie.Need-same-length-2
-same-length-2 c = search needs
-
-returns-2 : tie.Need-returns-2
-returns-2 c =
-    let w = c .before .before in
-    let p = w .before .before .before in
-    let case = p .before .before .before .before .args .case in
-    where-accepted case case _ refl (p .before .if1 .left) (from-line case case _ _ refl (numbers p) (w .write-line .ensures .0) (w .write-line .ensures .1))
+    let a = c .before .before .before .before .args in
+    subst (λ (zs : List ℤ). Replied (answering (a .case) (a .refusal) (a .case) zs) (c .answering .result)) (degree (c .before) .0 .values) (c .answering .ensures)
 
 pub opening-spec : {M : Type 1} → statement M
 opening-spec =
     tie.close
-    (tie.spec
-    refused-requires
-    same-length
-    returns
-    cast-t9
-    slice-aggregate-write-line
-    write-line-requires
-    same-length-2
-    returns-2)
+    (tie.spec cast-t5 slice-aggregate-numbers-of numbers-of-requires answering-requires returns)

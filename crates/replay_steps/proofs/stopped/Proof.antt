@@ -1,14 +1,16 @@
 -- `stopped` meets its contract.
 -- Assumes nothing.
 use mathlib.Core.Path.{_≡_, ap, sym, subst}
+use mathlib.Core.Bool.{true}
 use mathlib.Core.List.{List, [], _∷_}
 use native.Mathlib.Omega.{arith}
 use lib.IntN.{ℤ, pos}
 use mir.Syntax.{w64}
 use mir.Val.{toZ, ofZ}
-use Rattle.replay_steps.specs.Line.{capped}
-use Rattle.replay_steps.specs.Inner.{Fitting}
-use Rattle.replay_steps.proofs.Numbers.{number-fits, capped-fits, capped-back}
+use Rattle.columns.specs.Line.{allFit}
+use Rattle.replay_steps.specs.Counts.{capped}
+use Rattle.columns.proofs.Lines.{number-fits, fit-more}
+use Rattle.replay_steps.proofs.Fitting.{fit-one, capped-fits, capped-back}
 use Rattle.replay_steps.proofs.Replies.{wrote-stop}
 use borrow.Author.Needs.{needs}
 use Rattle.replay_steps.proofs.stopped.Statement.{statement}
@@ -25,7 +27,7 @@ numbers : (p : tie.After-capped) → _≡_ {A = List ℤ} (pos 99 ∷ toZ w64 (o
 numbers p = ap (λ (z : ℤ). pos 99 ∷ z ∷ []) (rw (p .capped .ensures) (capped-back (p .before .before .args .session .offset)))
 
 write-line-requires : tie.Need-write-line-requires
-write-line-requires c κs = let p = c .before .before in let s = p .before .before in (subst Fitting (sym (numbers p)) (number-fits 99 (omega arith), (capped-fits (s .args .session .offset), tt)), omega (arith, s .pre))
+write-line-requires c κs = let p = c .before .before in let s = p .before .before in (subst (λ (zs : List ℤ). allFit zs ≡ true) (sym (numbers p)) (fit-more _ _ (number-fits 99 (omega arith)) (fit-one _ (capped-fits (s .args .session .offset)))), omega (arith, s .pre))
 
 same-length : tie.Need-same-length
 same-length c = search needs

@@ -11,30 +11,15 @@ word-at-requires c κs = search needs
 word-at-requires-2 : tie.Need-word-at-requires-2
 word-at-requires-2 c κs = search needs
 
-both-requires : tie.Need-both-requires
-both-requires c κs = search needs
-
 ends-line-requires : tie.Need-ends-line-requires
 ends-line-requires c κs = search needs
-
-both-requires-2 : tie.Need-both-requires-2
-both-requires-2 c κs = search needs
 
 returns : tie.Need-returns
 unfolding parameterAt
 returns c =
-    let b = c .before .before in
-    let den = b .before in
-    let num = den .before in
-    rw (c .both2 .ensures, c .before .ends-line .ensures, b .both .ensures, den .word-at2 .ensures, num .word-at .ensures)
+    let den = c .before .before .before in
+    rw (c .ends-line .ensures, den .word-at2 .ensures, den .before .word-at .ensures)
 
 pub parameter-at-spec : {M : Type 1} → statement M
 parameter-at-spec =
-    tie.close
-    (tie.spec
-    word-at-requires
-    word-at-requires-2
-    both-requires
-    ends-line-requires
-    both-requires-2
-    returns)
+    tie.close (tie.spec word-at-requires word-at-requires-2 ends-line-requires returns)

@@ -1,12 +1,10 @@
 -- `request_of` meets its contract: each arm is the case of its number.
 -- Assumes nothing.
-use mathlib.Core.Path.{_≡_, refl, ap, _∙_}
-use mathlib.Core.Bool.{Bool}
+use mathlib.Core.Path.{_≡_, refl, _∙_}
 use mathlib.Core.List.{List}
 use Prim.Native.Nat.{ℕ}
 use borrow.Author.Tests.{not-true, not-false}
-use Rattle.replay_steps.specs.Request.{shaped, requestBy, requestOf}
-use Rattle.replay_steps.specs.declared.request.Request.the-variants.{Close, Elevate, Bounds}
+use Rattle.replay_steps.specs.Request.{requestBy, requestOf}
 use Rattle.replay_steps.proofs.Requests.{no-kind, by-kind, unknown-kind}
 use borrow.Author.Needs.{needs}
 use Rattle.replay_steps.proofs.request.request_of.Statement.{statement}
@@ -29,11 +27,8 @@ told c n e =
     let w = c .before .before .word-at in
     by-kind (bytesOf c) (w .result) (w .ensures) n (not-false (w .result .ok) (c .if1 .left)) e
 
-ends-line-requires : tie.Need-ends-line-requires
-ends-line-requires c κs = search needs
-
-shaped-requires : tie.Need-shaped-requires
-shaped-requires c κs = search needs
+bare-request-requires : tie.Need-bare-request-requires
+bare-request-requires c κs = search needs
 
 evaluate-request-requires : tie.Need-evaluate-request-requires
 evaluate-request-requires c κs = search needs
@@ -44,24 +39,18 @@ subdivide-request-requires c κs = search needs
 subdivide-request-requires-2 : tie.Need-subdivide-request-requires-2
 subdivide-request-requires-2 c κs = search needs
 
-ends-line-requires-2 : tie.Need-ends-line-requires-2
-ends-line-requires-2 c κs = search needs
+bare-request-requires-2 : tie.Need-bare-request-requires-2
+bare-request-requires-2 c κs = search needs
 
-shaped-requires-2 : tie.Need-shaped-requires-2
-shaped-requires-2 c κs = search needs
-
-ends-line-requires-3 : tie.Need-ends-line-requires-3
-ends-line-requires-3 c κs = search needs
-
-shaped-requires-3 : tie.Need-shaped-requires-3
-shaped-requires-3 c κs = search needs
+bare-request-requires-3 : tie.Need-bare-request-requires-3
+bare-request-requires-3 c κs = search needs
 
 walk-request-requires : tie.Need-walk-request-requires
 walk-request-requires c κs = search needs
 
 returns-2 : tie.Need-returns-2
 unfolding requestBy
-returns-2 c = c .shaped .ensures ∙ ap (λ (b : Bool). shaped b Close) (c .before .ends-line .ensures) ∙ told (c .before .before .before) 0 (c .before .before .match .keys1)
+returns-2 c = c .bare-request .ensures ∙ told (c .before .before) 0 (c .before .match .keys1)
 
 returns-3 : tie.Need-returns-3
 unfolding requestBy
@@ -77,11 +66,11 @@ returns-5 c = c .subdivide-request2 .ensures ∙ told (c .before .before) 3 (c .
 
 returns-6 : tie.Need-returns-6
 unfolding requestBy
-returns-6 c = c .shaped2 .ensures ∙ ap (λ (b : Bool). shaped b Elevate) (c .before .ends-line2 .ensures) ∙ told (c .before .before .before) 4 (c .before .before .match .keys5)
+returns-6 c = c .bare-request2 .ensures ∙ told (c .before .before) 4 (c .before .match .keys5)
 
 returns-7 : tie.Need-returns-7
 unfolding requestBy
-returns-7 c = c .shaped3 .ensures ∙ ap (λ (b : Bool). shaped b Bounds) (c .before .ends-line3 .ensures) ∙ told (c .before .before .before) 5 (c .before .before .match .keys6)
+returns-7 c = c .bare-request3 .ensures ∙ told (c .before .before) 5 (c .before .match .keys6)
 
 returns-8 : tie.Need-returns-8
 unfolding requestBy
@@ -100,15 +89,12 @@ request-of-spec =
     (tie.spec
     word-at-requires
     returns
-    ends-line-requires
-    shaped-requires
+    bare-request-requires
     evaluate-request-requires
     subdivide-request-requires
     subdivide-request-requires-2
-    ends-line-requires-2
-    shaped-requires-2
-    ends-line-requires-3
-    shaped-requires-3
+    bare-request-requires-2
+    bare-request-requires-3
     walk-request-requires
     returns-2
     returns-3

@@ -17,29 +17,15 @@ word-at-requires c κs = search needs
 word-at-requires-2 : tie.Need-word-at-requires-2
 word-at-requires-2 c κs = search needs
 
-both-requires : tie.Need-both-requires
-both-requires c κs = search needs
-
-both-requires-2 : tie.Need-both-requires-2
-both-requires-2 c κs = search needs
-
-both-requires-3 : tie.Need-both-requires-3
-both-requires-3 c κs = search needs
-
 ends-line-requires : tie.Need-ends-line-requires
 ends-line-requires c κs = search needs
-
-both-requires-4 : tie.Need-both-requires-4
-both-requires-4 c κs = search needs
 
 returns : tie.Need-returns
 unfolding walkAt
 returns c =
-    let e = c .before in
-    let b = e .before in
-    let budget = b .before .before .before .before .before in
-    let second = budget .before .before in
-    rw (c .both4 .ensures, e .ends-line .ensures, b .both3 .ensures, b .before .both2 .ensures, b .before .before .both .ensures, budget .word-at2 .ensures, budget .before .word-at .ensures, second .ends-at2 .ensures, second .before .ends-at .ensures)
+    let budget = c .before .before .before .before .before .before .before in
+    let reactance = budget .before .before in
+    rw (c .ends-line .ensures, budget .word-at2 .ensures, budget .before .word-at .ensures, reactance .ends-at2 .ensures, reactance .before .ends-at .ensures)
 
 pub walk-at-spec : {M : Type 1} → statement M
 walk-at-spec =
@@ -49,9 +35,5 @@ walk-at-spec =
     ends-at-requires-2
     word-at-requires
     word-at-requires-2
-    both-requires
-    both-requires-2
-    both-requires-3
     ends-line-requires
-    both-requires-4
     returns)

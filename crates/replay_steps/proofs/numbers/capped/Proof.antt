@@ -4,11 +4,11 @@ use mathlib.Core.Path.{_≡_, ap, _∙_}
 use Prim.Native.Nat.{min}
 use native.Mathlib.Omega.{arith}
 use lib.IntN.{ℤ, pos}
-use Rattle.replay_steps.specs.Line.{largest}
-use Rattle.replay_steps.proofs.Numbers.{as-signed}
+use Rattle.replay_steps.specs.Counts.{largest}
+use Rattle.replay_steps.proofs.Fitting.{as-signed}
 use borrow.Author.Needs.{needs}
-use Rattle.replay_steps.proofs.answers.capped.Statement.{statement}
-use Rattle.replay_steps.proofs.answers.capped.Tie as tie
+use Rattle.replay_steps.proofs.numbers.capped.Statement.{statement}
+use Rattle.replay_steps.proofs.numbers.capped.Tie as tie
 
 cast-result : tie.Need-cast-result
 cast-result c = search needs
