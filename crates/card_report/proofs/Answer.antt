@@ -27,7 +27,7 @@ use Rattle.card_text.proofs.Fitting.{row-long}
 use Rattle.card_text.proofs.Places.{card-within}
 use Rattle.card_text.proofs.Promises.{read-refusal}
 use Rattle.card_report.specs.Report.{mostBytes, curveLines, refusalLine, shown, mostShown, reportLength, reportBytes}
-use Rattle.card_report.proofs.BoundsHeld.{bounds-held}
+use Rattle.curve.proofs.BoundsHeld.{bounds-held}
 
 -- ---- lengths
 

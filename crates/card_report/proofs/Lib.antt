@@ -1,4 +1,3 @@
 -- Laws of the definitions in specs/, and the promises.
-pub mod BoundsHeld
 pub mod Answer
 pub mod Promises

@@ -15,6 +15,7 @@ pub mod EndPoints
 pub mod EqualFractions
 pub mod PastUnread
 pub mod BoundsLeast
+pub mod BoundsHeld
 pub mod ZeroPast
 pub mod RectSides
 pub mod EqualAnswers

@@ -28,7 +28,7 @@ use Rattle.card_text.proofs.Fitting.{row-put, row-long}
 use Rattle.card_text.proofs.Promises.{read-is-written}
 use Rattle.card_report.specs.Report.{mostBytes, curveLines}
 use Rattle.card_report.proofs.Answer.{half-held, lines-long, refusal-long, refusal-put, read-within, shown-refused, shown-accepted, too-short, reported}
-use Rattle.card_report.proofs.BoundsHeld.{bounds-held}
+use Rattle.curve.proofs.BoundsHeld.{bounds-held}
 use Rattle.card_report.proofs.report.Statement.{statement}
 use Rattle.card_report.proofs.report.Tie as tie
 
