@@ -10,16 +10,15 @@ use lib.IntN.{ℤ, pos}
 use lib.ListN.{length, length-append}
 use mir.Syntax.{w64}
 use mir.Val.{toZ}
+use Rattle.columns.specs.Line.{allFit}
+use Rattle.columns.proofs.Lines.{number-fits, fit-more}
 use Rattle.curve.specs.declared.Refusal.{Refusal}
 use Rattle.replay_steps.specs.declared.Case.{Case}
 use Rattle.replay_steps.specs.declared.answers.Reply.{Reply}
 use Rattle.replay_steps.specs.declared.numbers.Numbers.{Numbers}
-use Rattle.columns.specs.Line.{allFit}
 use Rattle.replay_steps.specs.Counts.{largest, capped}
-use Rattle.replay_steps.specs.Answer.{capacity}
-use Rattle.replay_steps.specs.Answer.{Answer, refusing, answering}
+use Rattle.replay_steps.specs.Answer.{capacity, Answer, refusing, answering}
 use Rattle.replay_steps.specs.Inner.{listed, noNumbers, Grown, Replied}
-use Rattle.columns.proofs.Lines.{number-fits, fit-more}
 use Rattle.replay_steps.proofs.Fitting.{as-signed, fit-one, capped-fits}
 
 -- nothing more, and more behind what there is more

@@ -8,6 +8,8 @@ use native.Mathlib.Omega.{arith}
 use borrow.Author.Tests.{eqb-true}
 use lib.Dec.{eqb}
 use lib.IntN.{ℤ, pos}
+use Rattle.columns.specs.Line.{allFit}
+use Rattle.columns.proofs.Lines.{fit-append}
 use Rattle.curve.specs.declared.Curve.{Curve}
 use Rattle.curve.specs.declared.Refusal.{Refusal}
 use Rattle.curve.specs.declared.Evaluation.{Evaluation}
@@ -24,9 +26,7 @@ use Rattle.curve.proofs.Pieces.{load-held, good-pieces, good-raised}
 use Rattle.curve.proofs.BoundsHeld.{bounds-held}
 use Rattle.card_text.specs.Card.{sides}
 use Rattle.card_text.proofs.Fitting.{degree-fits, sides-fit}
-use Rattle.columns.specs.Line.{allFit}
 use Rattle.replay_steps.specs.Answer.{sidesOf}
-use Rattle.columns.proofs.Lines.{fit-append}
 use Rattle.replay_steps.proofs.Points.{curve-fits}
 
 -- whether a number is 0

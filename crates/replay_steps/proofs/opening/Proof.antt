@@ -7,9 +7,9 @@ use Prim.Native.Nat.{_<_}
 use native.Mathlib.Omega.{arith}
 use lib.IntN.{ℤ, pos}
 use Rattle.columns.specs.Line.{allFit}
+use Rattle.columns.proofs.Lines.{number-fits}
 use Rattle.replay_steps.specs.Answer.{answering}
 use Rattle.replay_steps.specs.Inner.{noNumbers, Grown, Replied}
-use Rattle.columns.proofs.Lines.{number-fits}
 use Rattle.replay_steps.proofs.Fitting.{fit-one}
 use Rattle.replay_steps.proofs.Gathered.{one-number, can-answer}
 use borrow.Author.Needs.{needs}
