@@ -8,6 +8,7 @@ use native.Mathlib.Omega.{arith}
 use borrow.Author.Tests.{eq-eqb, ne-eqb}
 use lib.IntN.{ℤ, pos}
 use lib.ListN.{length, length-append}
+use lib.Seq.{length-take-le}
 use mir.Syntax.{w64}
 use mir.Val.{toZ}
 use Rattle.columns.specs.Line.{allFit}
@@ -20,6 +21,10 @@ use Rattle.replay_steps.specs.Counts.{largest, capped}
 use Rattle.replay_steps.specs.Answer.{capacity, Answer, refusing, answering}
 use Rattle.replay_steps.specs.Inner.{listed, noNumbers, Grown, Replied}
 use Rattle.replay_steps.proofs.Fitting.{as-signed, fit-one, capped-fits}
+
+-- the numbers are as many as the count says
+pub as-many : (n : Numbers) → length (n .values) ≡ capacity → n .count ≤ capacity → n .count ≡ length (listed n)
+as-many n size few = sym (length-take-le (n .count) (n .values) (omega arith))
 
 -- nothing more, and more behind what there is more
 pub grown-none : (n : Numbers) → length (n .values) ≡ capacity → Grown n [] n

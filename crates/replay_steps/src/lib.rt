@@ -50,7 +50,7 @@ use numbers::numbers_of;
 use request::Request;
 use request::request_of;
 
-// The bytes of a line of one, of three and of seven columns.
+// The bytes of a call line of one, of three and of seven columns.
 const LINE_OF_1: usize = 11;
 
 const LINE_OF_3: usize = 31;
@@ -113,8 +113,7 @@ pub fn start() -> Session
 
 // Takes the card or the call line at the front of the input, and writes its answer.
 pub fn step(session: Session, input: &[u8], out: &mut [u8]) -> Stepped
-    ensures { λ r. ⌜ r ≡ stepped (effect session (now (input .entry)) (now (out .entry))) ⌝ }
-    ensures { λ _. ⌜ now (out .exit) ≡ written (effect session (now (input .entry)) (now (out .entry))) (now (out .entry)) ⌝ }
+    ensures { λ r. ⌜ (r ≡ stepped (effect session (now (input .entry)) (now (out .entry)))) × (now (out .exit) ≡ written (effect session (now (input .entry)) (now (out .entry))) (now (out .entry))) ⌝ }
 {
     if out.len() < LINE_ROOM {
         return idle(session, Status::NoRoom);
@@ -222,13 +221,7 @@ fn card_at(input: &[u8]) -> &[u8]
 fn is_whole(number: u32) -> bool
     ensures { λ r. ⌜ r ≡ isWhole number ⌝ }
 {
-    if number == 0 {
-        return true;
-    }
-    if number == 2 {
-        return true;
-    }
-    number == 3
+    (number == 0) | (number == 2) | (number == 3)
 }
 
 // A card's line: 0 and the degree, or its refusal.
