@@ -39,14 +39,14 @@ sides-fit {p} h =
     let last = fit-more (p .resistance .high) (p .reactance .low ∷ p .reactance .high ∷ []) (side-fits-column _ (r .at up)) second in
     fit-more (p .resistance .low) (p .resistance .high ∷ p .reactance .low ∷ p .reactance .high ∷ []) (side-fits-column _ (r .at down)) last
 
-pub degree-fits : (n : ℕ) → n ≤ maxDegree → allFit (pos n ∷ []) ≡ true
-degree-fits n h = fit-more (pos n) [] (number-fits n (omega arith)) fit-none
+pub header-fits : (n : ℕ) → n ≤ maxDegree → allFit (pos n ∷ []) ≡ true
+header-fits n h = fit-more (pos n) [] (number-fits n (omega arith)) fit-none
 
 -- ---- what is put
 
 pub header-put : (bytes : List ℕ) (n : ℕ) → n ≤ maxDegree → headerLength ≤ length bytes → afterLine bytes 0 (pos n ∷ []) ≡ placed bytes 0 (header n)
 unfolding header
-header-put bytes n few room = line-put bytes 0 (pos n ∷ []) (degree-fits n few) room .1
+header-put bytes n few room = line-put bytes 0 (pos n ∷ []) (header-fits n few) room .1
 
 pub row-put : (bytes : List ℕ) (at : ℕ) {p : Rect} → Held p → at + rowLength ≤ length bytes → afterLine bytes at (sides p) ≡ placed bytes at (row p)
 unfolding row
@@ -56,7 +56,7 @@ row-put bytes at {p} h room = line-put bytes at (sides p) (sides-fit h) room .1
 
 pub header-long : (n : ℕ) → n ≤ maxDegree → length (header n) ≡ headerLength
 unfolding header
-header-long n h = line-long (pos n ∷ []) (degree-fits n h)
+header-long n h = line-long (pos n ∷ []) (header-fits n h)
 
 pub row-long : {p : Rect} → Held p → length (row p) ≡ rowLength
 unfolding row

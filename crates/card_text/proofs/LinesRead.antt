@@ -16,7 +16,7 @@ use Rattle.card_text.specs.Card.{sides, header, row, rows, headerLength,
 use Rattle.card_text.specs.Reading.{numberAt, intervalAt, rectAt, columnRefusal, lineEndRefusal, endsRefusal, rowRefusal, rowsRefusal}
 use Rattle.card_text.proofs.Accepting.{or-none}
 use Rattle.card_text.proofs.Entry.{line-read, line-end-read}
-use Rattle.card_text.proofs.Fitting.{sides-fit, degree-fits, row-long, rows-long}
+use Rattle.card_text.proofs.Fitting.{sides-fit, header-fits, row-long, rows-long}
 use Rattle.card_text.proofs.Stands.{Stands, stands-first, stands-second}
 
 module _ (bytes : List ℕ) where
@@ -40,8 +40,8 @@ module _ (bytes : List ℕ) where
       (columnRefusal bytes 0 ≡ none) × (numberAt bytes 0 ≡ pos n) × (lineEndRefusal bytes 10 ≡ none)
   unfolding header
   header-read n few s =
-      let (a, z) = line-read bytes 0 (pos n ∷ []) (degree-fits n few) s 0 0 (omega arith) refl in
-      (a, z, line-end-read bytes 0 (pos n ∷ []) (degree-fits n few) s)
+      let (a, z) = line-read bytes 0 (pos n ∷ []) (header-fits n few) s 0 0 (omega arith) refl in
+      (a, z, line-end-read bytes 0 (pos n ∷ []) (header-fits n few) s)
 
   pub rows-read : (m : ℕ) → ((k : ℕ) → k < m → rowRefusal bytes (rowAt k) ≡ none) → rowsRefusal bytes m ≡ none
   unfolding rowsRefusal
