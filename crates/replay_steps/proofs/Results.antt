@@ -2,14 +2,14 @@
 -- Assumes nothing.
 use mathlib.Core.Path.{_≡_, refl}
 use mathlib.Core.Bool.{Bool, true, false}
-use mathlib.Core.List.{List, [], _∷_, _++_}
+use mathlib.Core.List.{List, _∷_, _++_}
 use Prim.Native.Nat.{ℕ, _≤_}
 use native.Mathlib.Omega.{arith}
 use borrow.Author.Tests.{eqb-true}
 use lib.Dec.{eqb}
 use lib.IntN.{ℤ, pos}
 use Rattle.columns.specs.Line.{allFit}
-use Rattle.columns.proofs.Lines.{fit-append}
+use Rattle.columns.proofs.Lines.{number-fits, fit-more, fit-append}
 use Rattle.curve.specs.declared.Curve.{Curve}
 use Rattle.curve.specs.declared.Refusal.{Refusal}
 use Rattle.curve.specs.declared.Evaluation.{Evaluation}
@@ -25,7 +25,7 @@ use Rattle.curve.proofs.Answers.{evaluated-accepted, evaluated-refusal, subdivi
 use Rattle.curve.proofs.Pieces.{load-held, good-pieces, good-raised}
 use Rattle.curve.proofs.BoundsHeld.{bounds-held}
 use Rattle.card_text.specs.Card.{sides}
-use Rattle.card_text.proofs.Fitting.{degree-fits, sides-fit}
+use Rattle.card_text.proofs.Fitting.{sides-fit}
 use Rattle.replay_steps.specs.Answer.{sidesOf}
 use Rattle.replay_steps.proofs.Points.{curve-fits}
 
@@ -46,7 +46,7 @@ degree-few : (c : Curve) → Accepted c → c .degree ≤ maxDegree
 degree-few c a = accepted-facts c a .few
 
 behind-degree : (c : Curve) → Accepted c → (zs : List ℤ) → allFit zs ≡ true → allFit (pos (c .degree) ∷ zs) ≡ true
-behind-degree c a zs fit = fit-append (pos (c .degree) ∷ []) zs (degree-fits (c .degree) (degree-few c a)) fit
+behind-degree c a zs fit = fit-more (pos (c .degree)) zs (number-fits (c .degree) (omega (arith, degree-few c a))) fit
 
 -- ---- the load and the bounds
 
