@@ -1,10 +1,10 @@
 -- The bounds have their sides in range, since each is a side of a control point, or zero where the curve is refused.
 -- Assumes nothing.
-use mathlib.Core.Path.{_≡_, refl, sym, subst}
-use mathlib.Core.Bool.{Bool, true, false}
+use mathlib.Core.Path.{_≡_, sym, subst}
+use mathlib.Core.Bool.{false}
 use Prim.Native.Nat.{ℕ, zero, suc, _≤_}
 use native.Mathlib.Omega.{arith}
-use lib.Dec.{T, eqb, eqb→eq}
+use lib.Dec.{eqb}
 use Rattle.rational.specs.Rounding.{Rounding, down, up}
 use Rattle.rational.proofs.Order.{chosen}
 use Rattle.curve.specs.declared.Curve.{Curve}
@@ -16,9 +16,10 @@ use Rattle.curve.specs.Curve.{point, hullTo, boundsOf}
 use Rattle.curve.specs.Refusals.{curveRefusal}
 use Rattle.curve.specs.Calls.{bounded}
 use Rattle.curve.specs.Inner.{Side, Sides, Held}
+use Rattle.curve.proofs.Refused.{by-number}
 use Rattle.curve.proofs.Accepted.{number-accepted, accepted-ready}
 use Rattle.curve.proofs.Answers.{bounded-accepted, bounded-refused}
-use Rattle.curve.proofs.Loads.{zero-held}
+use Rattle.curve.proofs.Ranges.{zero-held}
 
 interval-sides : (i j : Interval) → Sides i → Sides j → Sides (hullInterval i j)
 unfolding hullInterval least greatest
@@ -43,10 +44,12 @@ hull-to-held P (suc n) h = hull-held (hullTo P n) (P (suc n)) (hull-to-held P n 
 
 pub bounds-held : (c : Curve) → Held (bounded c .rect)
 unfolding boundsOf
-bounds-held c = go (eqb (curveRefusal c .number) 0) refl
+bounds-held c = by-number (curveRefusal c .number) accepted refused
   where
-    go : (b : Bool) → eqb (curveRefusal c .number) 0 ≡ b → Held (bounded c .rect)
-    go true e =
-        let ok = number-accepted c (eqb→eq (curveRefusal c .number) 0 (subst T (sym e) tt)) in
+    accepted : curveRefusal c .number ≡ 0 → Held (bounded c .rect)
+    accepted h =
+        let ok = number-accepted c h in
         subst (λ (x : Enclosure). Held (x .rect)) (sym (bounded-accepted c ok)) (hull-to-held (point c) (c .degree) (accepted-ready c ok .held))
-    go false e = subst (λ (x : Enclosure). Held (x .rect)) (sym (bounded-refused c e)) zero-held
+
+    refused : eqb (curveRefusal c .number) 0 ≡ false → Held (bounded c .rect)
+    refused e = subst (λ (x : Enclosure). Held (x .rect)) (sym (bounded-refused c e)) zero-held

@@ -10,6 +10,7 @@ pub mod Accepted
 pub mod Answers
 pub mod Points
 pub mod Pieces
+pub mod Ranges
 pub mod Loads
 pub mod OhmsExact
 pub mod EndPoints

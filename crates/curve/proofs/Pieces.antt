@@ -17,9 +17,9 @@ use Rattle.curve.specs.Limits.{maxDegree, maxSide}
 use Rattle.curve.specs.Rect.{Coordinate, side}
 use Rattle.curve.specs.Curve.{point, curveOf, mapAt, loadOf, leftOf, rightOf, raisedPoint, raisedOf}
 use Rattle.curve.specs.Refusals.{Accepted, AcceptedAt}
-use Rattle.curve.specs.Inner.{Held, Side}
+use Rattle.curve.specs.Inner.{Side}
 use Rattle.curve.specs.Promises.{Pieces, GoodPieces, GoodRaised}
-use Rattle.curve.proofs.Accepted.{accepted-ready, Facts, accepted-facts, facts-accepted, parameter-facts}
+use Rattle.curve.proofs.Accepted.{Facts, accepted-facts, facts-accepted, parameter-facts}
 use Rattle.curve.proofs.Answers.{evaluated-accepted, subdivided-accepted, elevated-accepted}
 use Rattle.curve.proofs.Points.{sides, point-at, side-table, side-raised}
 
@@ -106,10 +106,6 @@ raised-degree c = refl
 pub right-load : (c : Curve) (num den : ℕ) → Accepted c → point (rightOf c num den) 0 ≡ loadOf c num den
 unfolding loadOf
 right-load c num den ok = right-point c num den 0 (accepted-facts c ok .few) (omega arith) ∙ right-first (mapAt num den) (point c) (c .degree)
-
-pub load-held : (c : Curve) (num den : ℕ) → Accepted c → AcceptedAt num den → Held (loadOf c num den)
-load-held c num den ok at =
-    subst Held (right-load c num den ok) (accepted-ready (rightOf c num den) (right-accepted c ok num den at) .held 0 (omega arith))
 
 -- ---- the promises
 

@@ -5,7 +5,7 @@ use mathlib.Core.Bool.{Bool, true, false, cond}
 use Prim.Native.Nat.{ℕ, suc, _+_, _-_, _≤_, _<_}
 use native.Mathlib.Numerals.{add-one}
 use native.Mathlib.Omega.{arith}
-use borrow.Author.Tests.{eq-eqb, ne-eqb}
+use borrow.Author.Tests.{eq-eqb, ne-eqb, eqb-true}
 use lib.Dec.{eqb}
 use Rattle.curve.specs.declared.Refusal.{Refusal}
 use Rattle.curve.specs.declared.Curve.{Curve}
@@ -35,6 +35,14 @@ number-refused {r} {q} e h = ne-eqb (q .number) 0 (subst (λ (x : Refusal). x .n
 
 pub number-passed : {r q : Refusal} → r ≡ q → r .number ≡ 0 → q .number ≡ 0
 number-passed e h = subst (λ (x : Refusal). x .number ≡ 0) e h
+
+-- by whether a refusal's number is 0
+pub by-number : {P : Type 0} (n : ℕ) → (n ≡ 0 → P) → (eqb n 0 ≡ false → P) → P
+by-number {P} n zero more = go (eqb n 0) refl
+  where
+    go : (b : Bool) → eqb n 0 ≡ b → P
+    go true e = zero (eqb-true n 0 e)
+    go false e = more e
 
 -- an answer that is `none` itself where its number is 0
 abbrev pub Settled : Refusal → Type 0

@@ -11,8 +11,8 @@ use mir.Val.{toZ, ofZ}
 use mir.ValLaws.{toZ-ofZ}
 use Rattle.columns.specs.Column.{fitsColumn}
 use Rattle.columns.specs.Line.{allFit}
-use Rattle.replay_steps.specs.Counts.{largest, added, capped}
 use Rattle.columns.proofs.Lines.{number-fits, fit-none, fit-more}
+use Rattle.replay_steps.specs.Counts.{largest, added, capped}
 
 -- ---- what fits a column
 

@@ -8,19 +8,23 @@ use native.Mathlib.Omega.{arith}
 use borrow.Author.Tests.{eq-eqb, ne-eqb}
 use lib.IntN.{ℤ, pos}
 use lib.ListN.{length, length-append}
+use lib.Seq.{length-take-le}
 use mir.Syntax.{w64}
 use mir.Val.{toZ}
+use Rattle.columns.specs.Line.{allFit}
+use Rattle.columns.proofs.Lines.{number-fits, fit-more}
 use Rattle.curve.specs.declared.Refusal.{Refusal}
 use Rattle.replay_steps.specs.declared.Case.{Case}
 use Rattle.replay_steps.specs.declared.answers.Reply.{Reply}
 use Rattle.replay_steps.specs.declared.numbers.Numbers.{Numbers}
-use Rattle.columns.specs.Line.{allFit}
 use Rattle.replay_steps.specs.Counts.{largest, capped}
-use Rattle.replay_steps.specs.Answer.{capacity}
-use Rattle.replay_steps.specs.Answer.{Answer, refusing, answering}
+use Rattle.replay_steps.specs.Answer.{capacity, Answer, refusing, answering}
 use Rattle.replay_steps.specs.Inner.{listed, noNumbers, Grown, Replied}
-use Rattle.columns.proofs.Lines.{number-fits, fit-more}
 use Rattle.replay_steps.proofs.Fitting.{as-signed, fit-one, capped-fits}
+
+-- the numbers are as many as the count says
+pub as-many : (n : Numbers) → length (n .values) ≡ capacity → n .count ≤ capacity → n .count ≡ length (listed n)
+as-many n size few = sym (length-take-le (n .count) (n .values) (omega arith))
 
 -- nothing more, and more behind what there is more
 pub grown-none : (n : Numbers) → length (n .values) ≡ capacity → Grown n [] n
@@ -58,9 +62,9 @@ module _ (s next : Case) (r : Refusal) (results : List ℤ) {n : Numbers} where
       rw (eq-eqb (r .number) 0 h) (replied (record { case = next; numbers = pos 0 ∷ results }) g (omega arith) (fit-more _ _ (number-fits 0 (omega arith)) fit))
 
 -- what `answering` asks of the results zs
-pub can-answer : (number : ℕ) {zs : List ℤ} {n : Numbers} → Grown noNumbers zs n → length zs < capacity → (number ≡ 0 → allFit zs ≡ true) →
-    (length (n .values) ≡ capacity) × ((n .count < capacity) × (number ≡ 0 → allFit (listed n) ≡ true))
-can-answer number g few fit = (g .size, (omega (arith, g .count), λ h. rw (g .values) (fit h)))
+pub can-answer : {zs : List ℤ} {n : Numbers} → Grown noNumbers zs n → length zs < capacity → allFit zs ≡ true →
+    (length (n .values) ≡ capacity) × ((n .count < capacity) × (allFit (listed n) ≡ true))
+can-answer g few fit = (g .size, (omega (arith, g .count), rw (g .values) fit))
 
 -- the answer by a refusal, a next case and results that are equal
 pub same-answer : (s : Case) {m n : Case} {r q : Refusal} {zs ws : List ℤ} {reply : Reply} → r ≡ q → m ≡ n → zs ≡ ws →

@@ -7,17 +7,16 @@ use Prim.Native.Nat.{ℕ, zero, suc, _+_, _*_, _<_}
 use native.Mathlib.Numerals.{add-one}
 use native.Mathlib.Omega.{arith}
 use lib.ListN.{length, length-append}
+use Rattle.columns.specs.Line.{allFit}
+use Rattle.columns.proofs.Lines.{fit-none, fit-append}
 use Rattle.curve.specs.declared.Curve.{Curve}
 use Rattle.curve.specs.declared.Rect.{Rect}
 use Rattle.curve.specs.Curve.{point}
-use Rattle.curve.specs.Refusals.{Accepted}
 use Rattle.curve.specs.Inner.{Held}
-use Rattle.curve.proofs.Accepted.{accepted-ready}
-use Rattle.columns.specs.Line.{allFit}
+use Rattle.curve.proofs.Ranges.{Ranged}
 use Rattle.card_text.specs.Card.{sides}
-use Rattle.replay_steps.specs.Answer.{sidesTo, sidesOf}
-use Rattle.columns.proofs.Lines.{fit-none, fit-append}
 use Rattle.card_text.proofs.Fitting.{sides-fit}
+use Rattle.replay_steps.specs.Answer.{sidesTo, sidesOf}
 
 module _ (P : ℕ → Rect) where
   pub points-count : (m : ℕ) → length (sidesTo m P) ≡ 4 * m
@@ -34,6 +33,6 @@ module _ (P : ℕ → Rect) where
   unfolding sidesTo
   points-next m = ap (λ (k : ℕ). sidesTo k P) (add-one m)
 
--- the rectangles of an accepted curve
-pub curve-fits : (c : Curve) → Accepted c → allFit (sidesOf c) ≡ true
-curve-fits c accepted = points-fit (point c) (c .degree + 1) (λ k h. accepted-ready c accepted .held k (omega arith))
+-- the rectangles of a curve that is in range
+pub curve-fits : (c : Curve) → Ranged c → allFit (sidesOf c) ≡ true
+curve-fits c ranged = points-fit (point c) (c .degree + 1) (λ k h. ranged .held k (omega arith))

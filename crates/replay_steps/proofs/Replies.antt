@@ -6,14 +6,13 @@ use mathlib.Core.List.{List, [], _∷_, _++_}
 use Prim.Native.Nat.{ℕ}
 use lib.IntN.{ℤ, pos}
 use lib.ListN.{length, drop}
-use Rattle.columns.specs.Line.{placed}
+use Rattle.columns.specs.Line.{placed, line}
 use Rattle.columns.proofs.Placed.{placed-front}
 use Rattle.replay_steps.specs.declared.Case.{Case}
 use Rattle.replay_steps.specs.declared.Session.{Session}
 use Rattle.replay_steps.specs.declared.Stepped.{Stepped}
 use Rattle.replay_steps.specs.declared.Status.the-variants.{Stopped}
 use Rattle.replay_steps.specs.declared.answers.Reply.{Reply}
-use Rattle.columns.specs.Line.{line}
 use Rattle.replay_steps.specs.Counts.{capped}
 use Rattle.replay_steps.specs.Answer.{Answer}
 use Rattle.replay_steps.specs.Step.{stopping, answered}

@@ -42,7 +42,7 @@ pub struct Reply {
 pub fn answering(case: Case, refusal: Refusal, next: Case, results: Numbers) -> Reply
     requires { ⌜ length (results .values) ≡ capacity ⌝ }
     requires { ⌜ results .count < capacity ⌝ }
-    requires { ⌜ (refusal .number ≡ 0 → allFit (listed results) ≡ true) ⌝ }
+    requires { ⌜ allFit (listed results) ≡ true ⌝ }
     ensures { λ r. ⌜ Replied (answering case refusal next (listed results)) r ⌝ }
 {
     if refusal.number != 0 {

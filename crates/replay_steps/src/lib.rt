@@ -37,11 +37,9 @@ use card_text::LONGEST_CARD;
 use card_text::card_length;
 use columns::put_line;
 use curve::Curve;
-use curve::Interval;
 use curve::MAX_DEGREE;
-use curve::PLACES;
-use curve::Rect;
 use curve::Refusal;
+use curve::zero_curve;
 use fields::word_at;
 use numbers::CAPACITY;
 use numbers::added;
@@ -50,7 +48,7 @@ use numbers::numbers_of;
 use request::Request;
 use request::request_of;
 
-// The bytes of a line of one, of three and of seven columns.
+// The bytes of a call line of one, of three and of seven columns.
 const LINE_OF_1: usize = 11;
 
 const LINE_OF_3: usize = 31;
@@ -96,14 +94,9 @@ pub struct Stepped {
 pub fn start() -> Session
     ensures { λ r. ⌜ r ≡ started ⌝ }
 {
-    let none = Rect {
-        resistance: Interval { low: 0, high: 0 },
-        reactance: Interval { low: 0, high: 0 },
-    };
-    let points = [none; PLACES];
     Session {
         case: Case {
-            curve: Curve { degree: 0, points },
+            curve: zero_curve(),
             sum: 0,
         },
         active: false,
@@ -113,8 +106,7 @@ pub fn start() -> Session
 
 // Takes the card or the call line at the front of the input, and writes its answer.
 pub fn step(session: Session, input: &[u8], out: &mut [u8]) -> Stepped
-    ensures { λ r. ⌜ r ≡ stepped (effect session (now (input .entry)) (now (out .entry))) ⌝ }
-    ensures { λ _. ⌜ now (out .exit) ≡ written (effect session (now (input .entry)) (now (out .entry))) (now (out .entry)) ⌝ }
+    ensures { λ r. ⌜ (r ≡ stepped (effect session (now (input .entry)) (now (out .entry)))) × (now (out .exit) ≡ written (effect session (now (input .entry)) (now (out .entry))) (now (out .entry))) ⌝ }
 {
     if out.len() < LINE_ROOM {
         return idle(session, Status::NoRoom);
@@ -222,13 +214,7 @@ fn card_at(input: &[u8]) -> &[u8]
 fn is_whole(number: u32) -> bool
     ensures { λ r. ⌜ r ≡ isWhole number ⌝ }
 {
-    if number == 0 {
-        return true;
-    }
-    if number == 2 {
-        return true;
-    }
-    number == 3
+    (number == 0) | (number == 2) | (number == 3)
 }
 
 // A card's line: 0 and the degree, or its refusal.

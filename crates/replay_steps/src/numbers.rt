@@ -1,4 +1,4 @@
-// The numbers of an answer, gathered before its line is written.
+// The numbers of an answer, gathered by value before its line is written, and counts as they are written.
 ghost use mathlib.Core.Path.{_≡_};
 ghost use Prim.Native.Nat.{_+_, _*_, _≤_};
 ghost use lib.ListN.{length};
@@ -16,7 +16,7 @@ pub const CAPACITY: usize = 2 + 8 * PLACES;
 // The largest number that a column holds.
 const LARGEST: u64 = 9_999_999_999;
 
-// So many numbers, the first of the values.
+// A list of numbers: the first of the values, so many as the count says.
 pub struct Numbers {
     pub values: [i64; CAPACITY],
     pub count: usize,
@@ -45,7 +45,7 @@ pub fn capped(n: u64) -> i64
     LARGEST as i64
 }
 
-// These numbers.
+// The list of these numbers.
 pub fn numbers_of(values: &[i64]) -> Numbers
     requires { ⌜ length (now values) ≤ capacity ⌝ }
     ensures { λ r. ⌜ Grown noNumbers (now (values .entry)) r ⌝ }
@@ -59,7 +59,7 @@ pub fn numbers_of(values: &[i64]) -> Numbers
     )
 }
 
-// Some numbers, and more behind them.
+// The list with more numbers behind it.
 pub fn append(numbers: Numbers, more: &[i64]) -> Numbers
     requires { ⌜ length (numbers .values) ≡ capacity ⌝ }
     requires { ⌜ numbers .count + length (now more) ≤ capacity ⌝ }
@@ -78,7 +78,7 @@ pub fn append(numbers: Numbers, more: &[i64]) -> Numbers
     }
 }
 
-// Some numbers, and the sides of a curve's rectangles 0 to n behind them.
+// The list with the sides of a curve's rectangles 0 to n behind it.
 pub fn append_points(numbers: Numbers, c: Curve) -> Numbers
     requires { ⌜ c .degree ≤ maxDegree ⌝ }
     requires { ⌜ length (numbers .values) ≡ capacity ⌝ }

@@ -10,8 +10,12 @@ use borrow.Rule.Slice.PartMut.{midOf, putMid, same-len-mid, mid-len}
 use Rattle.replay.proofs.main.Statement.{statement}
 use Rattle.replay.proofs.main.Tie as tie
 
+-- the bytes of each buffer
+abbrev buffered : ℕ
+buffered = 65536
+
 abbrev Inv-loop : tie.InvT-loop
-Inv-loop input₀ output₀ session₀ kept₀ turns₀ input output session kept turns = (kept ≤ 65536) × (length input ≡ 65536) × (length output ≡ 65536)
+Inv-loop input₀ output₀ session₀ kept₀ turns₀ input output session kept turns = (kept ≤ buffered) × (length input ≡ buffered) × (length output ≡ buffered)
 
 abbrev μ-loop : tie.MeasureT-loop
 μ-loop input₀ output₀ session₀ kept₀ turns₀ input output session kept turns = turns
@@ -50,15 +54,15 @@ module _ (r : tie.After-read-full Inv-loop μ-loop) where
   end = here .loop .kept + r .read-full .result
 
   abbrev filled : List ℕ
-  filled = putMid (here .loop .kept) (65536 - here .loop .kept) (here .loop .input) (r .read-full .last .1 .0)
+  filled = putMid (here .loop .kept) (buffered - here .loop .kept) (here .loop .input) (r .read-full .last .1 .0)
 
-  full : length filled ≡ 65536
-  full = same-len-mid (here .loop .kept) (65536 - here .loop .kept) (here .loop .input) (r .read-full .last .1 .0) (r .read-full .kept .1 .0) ∙ here .loop .inv .1
+  full : length filled ≡ buffered
+  full = same-len-mid (here .loop .kept) (buffered - here .loop .kept) (here .loop .input) (r .read-full .last .1 .0) (r .read-full .kept .1 .0) ∙ here .loop .inv .1
 
-  counted : end ≤ 65536
+  counted : end ≤ buffered
   counted =
-      let size : length (midOf (here .loop .kept) (65536 - here .loop .kept) (here .loop .input)) ≡ 65536 - here .loop .kept =
-      mid-len (here .loop .kept) 65536 (here .loop .input) (omega (arith, here .loop .inv .1)) in
+      let size : length (midOf (here .loop .kept) (buffered - here .loop .kept) (here .loop .input)) ≡ buffered - here .loop .kept =
+      mid-len (here .loop .kept) buffered (here .loop .input) (omega (arith, here .loop .inv .1)) in
       omega (arith, r .read-full .ensures .0, r .read-full .kept .1 .0, here .loop .inv .0)
 
 -- what is taken of the window lies before its end

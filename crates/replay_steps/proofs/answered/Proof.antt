@@ -1,11 +1,12 @@
 -- `answered` meets its contract.
 -- Assumes nothing.
-use mathlib.Core.Path.{_≡_, sym, ap, _∙_}
+use mathlib.Core.Path.{_≡_, subst}
 use mathlib.Core.Bool.{true}
+use Prim.Native.Nat.{ℕ}
 use native.Mathlib.Omega.{arith}
 use lib.ListN.{length}
-use lib.Seq.{length-take-le}
 use Rattle.replay_steps.specs.Inner.{listed, passedBy}
+use Rattle.replay_steps.proofs.Gathered.{as-many}
 use borrow.Author.Needs.{needs}
 use Rattle.replay_steps.proofs.answered.Statement.{statement}
 use Rattle.replay_steps.proofs.answered.Tie as tie
@@ -13,12 +14,9 @@ use Rattle.replay_steps.proofs.answered.Tie as tie
 array-share-prefix-values : tie.Need-array-share-prefix-values
 array-share-prefix-values c = search needs
 
--- the numbers are as many as they say
+-- the numbers are as many as the count says
 few : (n : tie.After-values) → let m = n .before .before .before .before .args .reply .numbers in m .count ≡ length (listed m)
-few n =
-    let s = n .before .before .before .before in
-    let m = s .args .reply .numbers in
-    sym (length-take-le (m .count) (m .values) (omega (arith, s .pre .0 .size, s .pre .0 .few)))
+few n = let s = n .before .before .before .before in as-many (s .args .reply .numbers) (s .pre .0 .size) (s .pre .0 .few)
 
 slice-aggregate-write-line : tie.Need-slice-aggregate-write-line
 slice-aggregate-write-line c = few (c .before .before)
@@ -39,7 +37,7 @@ returns : tie.Need-returns
 returns c =
     let w = c .before .before .before in
     let a = w .before .before .before .before .before .before .before .args in
-    (c .passed .ensures ∙ ap (passedBy (a .offset) (a .consumed) true (a .reply .case)) (w .write-line .ensures .0), w .write-line .ensures .1)
+    (subst (λ (n : ℕ). c .passed .result ≡ passedBy (a .offset) (a .consumed) true (a .reply .case) n) (w .write-line .ensures .0) (c .passed .ensures), w .write-line .ensures .1)
 
 pub answered-spec : {M : Type 1} → statement M
 answered-spec =

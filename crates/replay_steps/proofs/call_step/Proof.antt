@@ -3,10 +3,10 @@
 use mathlib.Core.Path.{_≡_, refl, sym, subst}
 use mathlib.Core.List.{List}
 use Prim.Native.Nat.{ℕ}
+use Rattle.columns.specs.Line.{lineLength}
 use Rattle.replay_steps.specs.declared.Session.{Session}
 use Rattle.replay_steps.specs.declared.Stepped.{Stepped}
 use Rattle.replay_steps.specs.declared.request.Request.{Request}
-use Rattle.columns.specs.Line.{lineLength}
 use Rattle.replay_steps.specs.Step.{callStep}
 use Rattle.replay_steps.specs.Inner.{Wrote}
 use Rattle.replay_steps.proofs.Replies.{wrote-answer}

@@ -7,9 +7,9 @@ use Prim.Native.Nat.{_<_}
 use native.Mathlib.Omega.{arith}
 use lib.IntN.{ℤ, pos}
 use Rattle.columns.specs.Line.{allFit}
+use Rattle.columns.proofs.Lines.{number-fits}
 use Rattle.replay_steps.specs.Answer.{answering}
 use Rattle.replay_steps.specs.Inner.{noNumbers, Grown, Replied}
-use Rattle.columns.proofs.Lines.{number-fits}
 use Rattle.replay_steps.proofs.Fitting.{fit-one}
 use Rattle.replay_steps.proofs.Gathered.{one-number, can-answer}
 use borrow.Author.Needs.{needs}
@@ -34,7 +34,7 @@ degree n =
     (one-number d (omega arith) (n .numbers-of .ensures), fit-one (pos d) (number-fits d (omega arith)))
 
 answering-requires : tie.Need-answering-requires
-answering-requires c κs = let (numbers, fit) = degree c in can-answer (c .before .before .before .args .refusal .number) numbers (omega arith) (λ h. fit)
+answering-requires c κs = let (numbers, fit) = degree c in can-answer numbers (omega arith) fit
 
 returns : tie.Need-returns
 returns c =

@@ -1,13 +1,14 @@
--- `start` meets its contract: all nine rectangles are zero.
+-- `start` meets its contract.
 -- Assumes nothing.
-use mathlib.Core.Path.{refl}
-use Rattle.curve.specs.Curve.{pointsOf, tabulate}
+use borrow.Author.Needs.{needs}
 use Rattle.replay_steps.proofs.start.Statement.{statement}
 use Rattle.replay_steps.proofs.start.Tie as tie
 
+zero-curve-requires : tie.Need-zero-curve-requires
+zero-curve-requires c κs = search needs
+
 returns : tie.Need-returns
-unfolding pointsOf tabulate
-returns c = refl
+returns c = rw (c .zero-curve .ensures)
 
 pub start-spec : {M : Type 1} → statement M
-start-spec = tie.close (tie.spec returns)
+start-spec = tie.close (tie.spec zero-curve-requires returns)

@@ -8,8 +8,8 @@ use lib.IntN.{ℤ, pos}
 use mir.Syntax.{w64}
 use mir.Val.{toZ, ofZ}
 use Rattle.columns.specs.Line.{allFit}
-use Rattle.replay_steps.specs.Counts.{capped}
 use Rattle.columns.proofs.Lines.{number-fits, fit-more}
+use Rattle.replay_steps.specs.Counts.{capped}
 use Rattle.replay_steps.proofs.Fitting.{fit-one, capped-fits, capped-back}
 use Rattle.replay_steps.proofs.Replies.{wrote-stop}
 use borrow.Author.Needs.{needs}

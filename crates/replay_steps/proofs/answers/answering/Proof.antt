@@ -1,18 +1,17 @@
 -- `answering` meets its contract.
 -- Assumes nothing.
-use mathlib.Core.Path.{_≡_, sym, ap₂, subst}
+use mathlib.Core.Path.{_≡_, ap₂, subst}
 use mathlib.Core.List.{List, [], _∷_}
 use Prim.Native.Nat.{_<_}
 use native.Mathlib.Omega.{arith}
 use lib.IntN.{ℤ, pos}
 use lib.ListN.{length}
-use lib.Seq.{length-take-le}
 use mir.Syntax.{w64}
 use mir.Val.{toZ, ofZ}
 use Rattle.replay_steps.specs.Counts.{capped}
 use Rattle.replay_steps.specs.Inner.{listed, noNumbers, Grown}
 use Rattle.replay_steps.proofs.Fitting.{as-signed, capped-back}
-use Rattle.replay_steps.proofs.Gathered.{grown-then, where-refused, where-accepted}
+use Rattle.replay_steps.proofs.Gathered.{as-many, grown-then, where-refused, where-accepted}
 use borrow.Author.Needs.{needs}
 use Rattle.replay_steps.proofs.answers.answering.Statement.{statement}
 use Rattle.replay_steps.proofs.answers.answering.Tie as tie
@@ -49,9 +48,9 @@ numbers-of-requires-2 c κs = search needs
 array-share-prefix-values : tie.Need-array-share-prefix-values
 array-share-prefix-values c = search needs
 
--- the results are as many as they say
+-- the results are as many as the count says
 few : (x : tie.Else1) → let n = x .before .before .args .results in n .count ≡ length (listed n)
-few x = let s = x .before .before in sym (length-take-le (s .args .results .count) (s .args .results .values) (omega (arith, s .pre .0, s .pre .1 .0)))
+few x = let s = x .before .before in as-many (s .args .results) (s .pre .0) (omega (arith, s .pre .1 .0))
 
 slice-aggregate-append : tie.Need-slice-aggregate-append
 slice-aggregate-append c = few (c .before .before .before .before)
@@ -68,7 +67,7 @@ returns-2 c =
     let x = zero .before .before .before in
     let s = x .before .before in
     let a = s .args in
-    where-accepted (a .case) (a .next) (a .refusal) (listed (a .results)) (x .if1 .left) (omega (arith, few x, s .pre .1 .0)) (s .pre .1 .1 (x .if1 .left))
+    where-accepted (a .case) (a .next) (a .refusal) (listed (a .results)) (x .if1 .left) (omega (arith, few x, s .pre .1 .0)) (s .pre .1 .1)
     (grown-then (zero .numbers-of2 .ensures) (c .append .ensures))
 
 pub answering-spec : {M : Type 1} → statement M

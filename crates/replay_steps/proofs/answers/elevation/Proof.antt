@@ -5,6 +5,7 @@ use mathlib.Core.List.{[], _∷_}
 use Prim.Native.Nat.{ℕ, _+_, _≤_}
 use native.Mathlib.Omega.{arith}
 use lib.IntN.{pos}
+use Rattle.columns.proofs.Lines.{number-fits, fit-more}
 use Rattle.curve.specs.declared.Curve.{Curve}
 use Rattle.curve.specs.declared.Elevation.{Elevation}
 use Rattle.curve.specs.Limits.{maxDegree}
@@ -58,8 +59,8 @@ append-points-requires c κs = (few c, (degree c .size, omega (arith, few c, deg
 answering-requires : tie.Need-answering-requires
 answering-requires c κs =
     let n = c .before in
-    can-answer (called n .elevate .result .refusal .number) (results c) (omega (arith, few n, points-count (point (raised n)) (raised n .degree + 1)))
-    (raised-fits (curveOf n) (called n .elevate .ensures))
+    can-answer (results c) (omega (arith, few n, points-count (point (raised n)) (raised n .degree + 1)))
+    (fit-more _ _ (number-fits (raised n .degree) (omega (arith, few n))) (raised-fits (curveOf n) (called n .elevate .ensures)))
 
 returns : tie.Need-returns
 unfolding elevation

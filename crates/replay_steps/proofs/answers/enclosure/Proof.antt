@@ -28,8 +28,8 @@ answering-requires : tie.Need-answering-requires
 answering-requires c κs =
     let f = c .before .before in
     let b = f .before in
-    can-answer (b .bounds .result .refusal .number) (c .numbers-of .ensures) (omega (arith, ap length (f .sides .ensures)))
-    (λ h. rw (f .sides .ensures) (bounds-fit (b .before .before .args .case .curve) (b .bounds .ensures) h))
+    can-answer (c .numbers-of .ensures) (omega (arith, ap length (f .sides .ensures)))
+    (rw (f .sides .ensures) (bounds-fit (b .before .before .args .case .curve) (b .bounds .ensures)))
 
 returns : tie.Need-returns
 unfolding enclosure

@@ -7,12 +7,12 @@ use native.Mathlib.Omega.{arith}
 use lib.IntN.{ℤ}
 use mir.Syntax.{w64}
 use mir.Val.{toZ, ofZ}
+use Rattle.columns.proofs.Lines.{fit-append}
 use Rattle.curve.specs.declared.Evaluation.{Evaluation}
 use Rattle.card_text.specs.Card.{sides}
 use Rattle.replay_steps.specs.Counts.{capped}
 use Rattle.replay_steps.specs.Answer.{evaluation}
 use Rattle.replay_steps.specs.Inner.{noNumbers, Grown}
-use Rattle.columns.proofs.Lines.{fit-append}
 use Rattle.replay_steps.proofs.Fitting.{fit-one, capped-fits, sum-back}
 use Rattle.replay_steps.proofs.Results.{load-fits}
 use Rattle.replay_steps.proofs.Gathered.{grown-then, can-answer, same-answer}
@@ -68,8 +68,8 @@ results n =
 answering-requires : tie.Need-answering-requires
 answering-requires c κs =
     let a = start c .args in
-    can-answer (called c .evaluate .result .refusal .number) (results c) (omega arith)
-    (λ h. fit-append (sides (called c .evaluate .result .load)) (sum c ∷ []) (load-fits (a .case .curve) (a .num) (a .den) (called c .evaluate .ensures) h) (fit-one _ (capped-fits (a .case .sum + a .case .curve .degree))))
+    can-answer (results c) (omega arith)
+    (fit-append (sides (called c .evaluate .result .load)) (sum c ∷ []) (load-fits (a .case .curve) (a .num) (a .den) (called c .evaluate .ensures)) (fit-one _ (capped-fits (a .case .sum + a .case .curve .degree))))
 
 returns : tie.Need-returns
 unfolding evaluation

@@ -6,6 +6,7 @@ use Prim.Native.Nat.{ℕ, _+_, _*_, _≤_}
 use native.Mathlib.Omega.{arith}
 use lib.IntN.{pos}
 use lib.ListN.{length, length-append}
+use Rattle.columns.proofs.Lines.{number-fits, fit-more}
 use Rattle.curve.specs.declared.Curve.{Curve}
 use Rattle.curve.specs.declared.Subdivision.{Subdivision}
 use Rattle.curve.specs.Limits.{maxDegree}
@@ -81,9 +82,9 @@ answering-requires c κs =
     let n = c .before .before in
     let a = start n .args in
     let d = pieces n in
-    can-answer (d .refusal .number) (results c)
+    can-answer (results c)
     (omega (arith, few n .0, few n .1, counted (d .left), counted (d .right), length-append (sidesOf (d .left)) (sidesOf (d .right))))
-    (pieces-fit (a .case .curve) (a .num) (a .den) (called n .subdivide .ensures))
+    (fit-more _ _ (number-fits (degreeOf n) (omega (arith, n .before .before .struct-known2 .given))) (pieces-fit (a .case .curve) (a .num) (a .den) (called n .subdivide .ensures)))
 
 returns : tie.Need-returns
 unfolding subdivision

@@ -26,7 +26,7 @@ numbers-of-requires c κs = search needs
 answering-requires : tie.Need-answering-requires
 answering-requires c κs =
     let f = c .before .before in
-    can-answer (f .before .search .result .refusal .number) (c .numbers-of .ensures) (omega (arith, ap length (f .report-of .ensures .0))) (λ h. f .report-of .ensures .1)
+    can-answer (c .numbers-of .ensures) (omega (arith, ap length (f .report-of .ensures .0))) (f .report-of .ensures .1)
 
 returns : tie.Need-returns
 unfolding verdict
