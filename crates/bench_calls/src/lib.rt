@@ -23,6 +23,7 @@ use curve::Interval;
 use curve::MAX_DEGREE;
 use curve::PLACES;
 use curve::Rect;
+use curve::zero_rect;
 
 // The answer where a slice is too short. No refusal has this number.
 pub const SHORT: u32 = 100;
@@ -68,11 +69,7 @@ fn curve_from(sides: &[i32]) -> Curve
     requires { ⌜ curveSides ≤ length (now sides) ⌝ }
     ensures { λ r. ⌜ r ≡ curveFrom (now (sides .entry)) ⌝ }
 {
-    let zero = Interval { low: 0, high: 0 };
-    let mut points = [Rect {
-        resistance: zero,
-        reactance: zero,
-    }; PLACES];
+    let mut points = [zero_rect(); PLACES];
     points[0] = rect_from(sides, 0);
     let mut k = 0;
     while k < LAST_PLACE {

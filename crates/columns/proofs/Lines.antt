@@ -98,19 +98,9 @@ pub line-long : (zs : List ℤ) → allFit zs ≡ true → length (line zs) ≡ 
 unfolding line
 line-long zs f = length-append (columns zs) (newline ∷ []) ∙ rw (columns-long zs f)
 
-pub line-append : (a b : List ℤ) → columns a ++ line b ≡ line (a ++ b)
-unfolding line
-line-append a b = sym (append-assoc (columns a) (columns b) (newline ∷ [])) ∙ ap (λ (l : List ℕ). l ++ (newline ∷ [])) (sym (columns-append a b))
-
 -- ---- in a buffer
 
 -- columns or a line, put behind columns that stand there already
 module _ (bytes : List ℕ) (at : ℕ) (a b : List ℤ) (out : List ℕ) (fits : allFit a ≡ true) (room : at + 10 * length a ≤ length bytes) (e : out ≡ placed bytes at (columns a)) where
   behind : (next : List ℕ) → placed out (at + 10 * length a) next ≡ placed bytes at (columns a ++ next)
   behind next = placed-then bytes at (10 * length a) (columns a) next out (columns-long a fits) room e
-
-  pub columns-then : placed out (at + 10 * length a) (columns b) ≡ placed bytes at (columns (a ++ b))
-  columns-then = behind (columns b) ∙ ap (λ (t : List ℕ). placed bytes at t) (sym (columns-append a b))
-
-  pub line-then : placed out (at + 10 * length a) (line b) ≡ placed bytes at (line (a ++ b))
-  line-then = behind (line b) ∙ ap (λ (t : List ℕ). placed bytes at t) (line-append a b)

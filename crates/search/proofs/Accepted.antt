@@ -1,14 +1,14 @@
 -- What it means that a walk is not refused, and its answer by whether it is.
 -- Assumes nothing.
-use mathlib.Core.Path.{_≡_, refl, sym, ap, _∙_, subst}
-use mathlib.Core.Bool.{Bool, true, false, _&&_}
+use mathlib.Core.Path.{_≡_, sym, ap, _∙_, subst}
+use mathlib.Core.Bool.{false, _&&_}
 use Prim.Native.Nat.{ℕ, _≤_}
-use borrow.Author.Tests.{eqb-true}
 use lib.Dec.{T, leb, eqb, leb→le, le→leb}
 use Rattle.curve.specs.declared.Rect.{Rect}
 use Rattle.curve.specs.declared.Curve.{Curve}
 use Rattle.curve.specs.declared.Refusal.{Refusal}
 use Rattle.curve.specs.Refusals.{none, _orElse_, unless, curveRefusal, Accepted}
+use Rattle.curve.proofs.Refused.{by-number}
 use Rattle.curve.proofs.Accepted.{or-split, or-none, unless-holds, unless-none, between-holds, between-none, number-accepted}
 use Rattle.curve.proofs.Answers.{where-none, where-some}
 use Rattle.search.specs.declared.SearchAnswer.{SearchAnswer}
@@ -66,13 +66,10 @@ module _ (c : Curve) (box : Rect) (depth budget : ℕ) where
   pub by-answer :
       (P : Verdict → Type 0) → P Refused → (Facts c box depth budget → P (walked box budget depth c 0 0 (Inside 0))) →
       P (searched c box depth budget .verdict)
-  by-answer P refused accepted = go (eqb (searchRefusal c box depth budget .number) 0) refl
-    where
-      go : (b : Bool) → eqb (searchRefusal c box depth budget .number) 0 ≡ b → P (searched c box depth budget .verdict)
-      go true e =
-          let f = number-facts (eqb-true (searchRefusal c box depth budget .number) 0 e) in
-          subst (λ (a : SearchAnswer). P (a .verdict)) (sym (searched-accepted f)) (accepted f)
-      go false e = subst (λ (a : SearchAnswer). P (a .verdict)) (sym (searched-refused e)) refused
+  by-answer P refused accepted =
+      by-number (searchRefusal c box depth budget .number)
+      (λ h. let f = number-facts h in subst (λ (a : SearchAnswer). P (a .verdict)) (sym (searched-accepted f)) (accepted f))
+      (λ e. subst (λ (a : SearchAnswer). P (a .verdict)) (sym (searched-refused e)) refused)
 
 -- two budgets from 1 to the largest are refused alike
 pub same-refusal :

@@ -20,20 +20,23 @@ Inv-loop sides points₀ k₀ points k = (k ≤ maxDegree) × (points ≡ points
 abbrev μ-loop : tie.MeasureT-loop
 μ-loop sides points₀ k₀ points k = maxDegree - k
 
+zero-rect-requires : tie.Need-zero-rect-requires Inv-loop μ-loop
+zero-rect-requires c κs = search needs
+
 rect-from-requires : tie.Need-rect-from-requires Inv-loop μ-loop
-rect-from-requires c κs = (omega arith, c .pre)
+rect-from-requires c κs = (omega arith, c .before .pre)
 
 array-set-from-points : tie.Need-array-set-from-points Inv-loop μ-loop
 array-set-from-points c = search needs
 
 loop-holds : tie.Need-loop-holds Inv-loop μ-loop
-loop-holds c = (omega arith, rw (c .rect-from .ensures) (points-first (rectFrom (c .before .args .sides .now))))
+loop-holds c = (omega arith, rw (c .before .zero-rect .ensures, c .rect-from .ensures) (points-first (rectFrom (c .before .before .args .sides .now))))
 
 add-k : tie.Need-add-k Inv-loop μ-loop
 add-k c = omega arith
 
 rect-from-requires-2 : tie.Need-rect-from-requires-2 Inv-loop μ-loop
-rect-from-requires-2 c κs = (omega arith, c .before .before .before .pre)
+rect-from-requires-2 c κs = (omega arith, c .before .before .before .before .pre)
 
 mul-points : tie.Need-mul-points Inv-loop μ-loop
 mul-points c = omega arith
@@ -47,7 +50,7 @@ loop-less c = omega arith
 loop-again : tie.Need-loop-again Inv-loop μ-loop
 loop-again c =
     let l = c .before .before .loop in
-    let f = rectFrom (c .before .before .before .before .args .sides .now) in
+    let f = rectFrom (c .before .before .before .before .before .args .sides .now) in
     (omega arith, ap₂ (λ (x : List Rect) (v : Rect). set x (l .k + 1) v) (l .inv .1) (c .rect-from2 .ensures) ∙ points-next (l .k) f (omega arith))
 
 returns : tie.Need-returns Inv-loop μ-loop
@@ -55,7 +58,7 @@ unfolding curveFrom
 returns c =
     let l = c .before .loop in
     let done : l .k ≡ maxDegree = omega arith in
-    rw (l .inv .1 ∙ ap (λ (k : ℕ). pointsOf k (rectFrom (c .before .before .before .args .sides .now))) done)
+    rw (l .inv .1 ∙ ap (λ (k : ℕ). pointsOf k (rectFrom (c .before .before .before .before .args .sides .now))) done)
 
 pub curve-from-spec : {M : Type 1} → statement M
 curve-from-spec =
@@ -63,6 +66,7 @@ curve-from-spec =
     (tie.spec
     Inv-loop
     μ-loop
+    zero-rect-requires
     rect-from-requires
     array-set-from-points
     loop-holds
