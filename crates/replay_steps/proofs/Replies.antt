@@ -24,9 +24,9 @@ in-front text before e = e ∙ placed-front before text
 
 -- an answer's line is done
 pub wrote-answer : (s : Session) (n : ℕ) (a : Answer) {before after : List ℕ} {reply : Reply} {r : Stepped} → Replied a reply →
-    (r ≡ passedBy (s .offset) n true (reply .case) (length (line (listed (reply .numbers))))) × (after ≡ placed before 0 (line (listed (reply .numbers)))) →
+    r ≡ passedBy (s .offset) n true (reply .case) (length (line (listed (reply .numbers)))) → after ≡ placed before 0 (line (listed (reply .numbers))) →
     Wrote (answered s n a) before r after
-wrote-answer s n a {before} x (result, text) =
+wrote-answer s n a {before} x result text =
     record {
       result = result ∙ ap₂ (λ (c : Case) (zs : List ℤ). passedBy (s .offset) n true c (length (line zs))) (x .case) (x .numbers);
       text = in-front (line (a .numbers)) before (text ∙ ap (λ (zs : List ℤ). placed before 0 (line zs)) (x .numbers));

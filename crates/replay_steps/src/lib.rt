@@ -4,10 +4,12 @@ ghost use mathlib.Core.Bool.{true};
 ghost use Prim.Native.Nat.{_*_, _≤_, _<_};
 ghost use lib.ListN.{length};
 ghost use Rattle.columns.specs.Line.{placed, line, allFit};
+ghost use Rattle.replay_steps.specs.Answer.{Answer};
 ghost use Rattle.replay_steps.specs.Step.{
   started,
   idle,
   stopping,
+  answered,
   cardSize,
   cardAt,
   isWhole,
@@ -19,7 +21,7 @@ ghost use Rattle.replay_steps.specs.Step.{
   stepped,
   written,
 };
-ghost use Rattle.replay_steps.specs.Inner.{listed, passedBy, Ready, Replied, Wrote};
+ghost use Rattle.replay_steps.specs.Inner.{passedBy, Ready, Replied, Wrote};
 
 mod answers;
 mod fields;
@@ -175,17 +177,17 @@ fn passed(offset: u64, consumed: usize, active: bool, case: Case, written: usize
 }
 
 // A line is done inside a case, and its answer is written.
-fn answered(offset: u64, consumed: usize, reply: Reply, out: &mut [u8]) -> Stepped
+fn answered(session: Session, consumed: usize, reply: Reply, out: &mut [u8]) -> Stepped
     requires { ⌜ Ready reply ⌝ }
     requires { ⌜ lineRoom ≤ length (now out) ⌝ }
-    ensures { λ r. ⌜ (r ≡ passedBy offset consumed true (reply .case) (length (line (listed (reply .numbers))))) × (now (out .exit) ≡ placed (now (out .entry)) 0 (line (listed (reply .numbers)))) ⌝ }
+    ensures { λ r. ⌜ ((a : Answer) → Replied a reply → Wrote (answered session consumed a) (now (out .entry)) r (now (out .exit))) ⌝ }
 {
     let case = reply.case;
     let numbers = reply.numbers;
     let count = numbers.count;
     let values = numbers.values;
     let written = write_line(out, &values[..count]);
-    passed(offset, consumed, true, case, written)
+    passed(session.offset, consumed, true, case, written)
 }
 
 // The bytes of the card that begins here, as its degree tells; those of degree 0 where it is none.
@@ -238,7 +240,7 @@ fn card_step(session: Session, input: &[u8], out: &mut [u8]) -> Stepped
     }
     let curve = card.curve;
     let case = Case { curve, sum: 0 };
-    answered(session.offset, size, opening(case, refusal), out)
+    answered(session, size, opening(case, refusal), out)
 }
 
 // A call line inside a case.
@@ -247,22 +249,26 @@ fn call_step(session: Session, request: Request, out: &mut [u8]) -> Stepped
     ensures { λ r. ⌜ Wrote (callStep session request) (now (out .entry)) r (now (out .exit)) ⌝ }
 {
     let case = session.case;
-    let offset = session.offset;
     match request {
         Request::Invalid => stopped(session, out),
-        Request::Close => passed(offset, LINE_OF_1, false, case, 0),
+        Request::Close => passed(session.offset, LINE_OF_1, false, case, 0),
         Request::Evaluate { num, den } => {
-            answered(offset, LINE_OF_3, evaluation(case, num, den), out)
+            answered(session, LINE_OF_3, evaluation(case, num, den), out)
         }
         Request::Subdivide { num, den, right } => {
-            answered(offset, LINE_OF_3, subdivision(case, num, den, right), out)
+            answered(session, LINE_OF_3, subdivision(case, num, den, right), out)
         }
-        Request::Elevate => answered(offset, LINE_OF_1, elevation(case), out),
-        Request::Bounds => answered(offset, LINE_OF_1, enclosure(case), out),
+        Request::Elevate => answered(session, LINE_OF_1, elevation(case), out),
+        Request::Bounds => answered(session, LINE_OF_1, enclosure(case), out),
         Request::Search {
             limits,
             depth,
             budget,
-        } => answered(offset, LINE_OF_7, verdict(case, limits, depth, budget), out),
+        } => answered(
+            session,
+            LINE_OF_7,
+            verdict(case, limits, depth, budget),
+            out,
+        ),
     }
 }

@@ -1,4 +1,4 @@
--- `answered` meets its contract.
+-- `answered` meets its contract: the line that is written is the answer's.
 -- Assumes nothing.
 use mathlib.Core.Path.{_≡_, subst}
 use mathlib.Core.Bool.{true}
@@ -7,6 +7,7 @@ use native.Mathlib.Omega.{arith}
 use lib.ListN.{length}
 use Rattle.replay_steps.specs.Inner.{listed, passedBy}
 use Rattle.replay_steps.proofs.Gathered.{as-many}
+use Rattle.replay_steps.proofs.Replies.{wrote-answer}
 use borrow.Author.Needs.{needs}
 use Rattle.replay_steps.proofs.answered.Statement.{statement}
 use Rattle.replay_steps.proofs.answered.Tie as tie
@@ -37,7 +38,8 @@ returns : tie.Need-returns
 returns c =
     let w = c .before .before .before in
     let a = w .before .before .before .before .before .before .before .args in
-    (subst (λ (n : ℕ). c .passed .result ≡ passedBy (a .offset) (a .consumed) true (a .reply .case) n) (w .write-line .ensures .0) (c .passed .ensures), w .write-line .ensures .1)
+    let done = subst (λ (n : ℕ). c .passed .result ≡ passedBy (a .session .offset) (a .consumed) true (a .reply .case) n) (w .write-line .ensures .0) (c .passed .ensures) in
+    λ x y. wrote-answer (a .session) (a .consumed) x y done (w .write-line .ensures .1)
 
 pub answered-spec : {M : Type 1} → statement M
 answered-spec =

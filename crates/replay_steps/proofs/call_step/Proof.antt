@@ -3,13 +3,11 @@
 use mathlib.Core.Path.{_≡_, refl, sym, subst}
 use mathlib.Core.List.{List}
 use Prim.Native.Nat.{ℕ}
-use Rattle.columns.specs.Line.{lineLength}
 use Rattle.replay_steps.specs.declared.Session.{Session}
 use Rattle.replay_steps.specs.declared.Stepped.{Stepped}
 use Rattle.replay_steps.specs.declared.request.Request.{Request}
 use Rattle.replay_steps.specs.Step.{callStep}
 use Rattle.replay_steps.specs.Inner.{Wrote}
-use Rattle.replay_steps.proofs.Replies.{wrote-answer}
 use borrow.Author.Needs.{needs}
 use Rattle.replay_steps.proofs.call_step.Statement.{statement}
 use Rattle.replay_steps.proofs.call_step.Tie as tie
@@ -79,60 +77,40 @@ by-request : (s : Session) {request known : Request} {before after : List ℕ} {
 by-request s {request} {known} {before} {after} {r} e x = subst (λ (q : Request). Wrote (callStep s q) before r after) (sym e) x
 
 returns : tie.Need-returns
-returns c = let f = c .before .before in by-request (f .before .before .before .before .before .before .args .session) (f .before .before .enum-told .given .1) (f .stopped .ensures)
+returns c = let f = c .before .before in by-request _ (f .before .before .enum-told .given .1) (f .stopped .ensures)
 
 returns-2 : tie.Need-returns-2
-returns-2 c = by-request (c .before .before .before .before .before .args .session) (c .before .enum-told2 .given .1) (record { result = c .passed .ensures; text = refl })
+returns-2 c = by-request _ (c .before .enum-told2 .given .1) (record { result = c .passed .ensures; text = refl })
 
 same-length-2 : tie.Need-same-length-2
 same-length-2 c = search needs
 
 returns-3 : tie.Need-returns-3
-returns-3 c =
-    let f = c .before .before in
-    let e = f .before .before in
-    let s = e .before .before .before .before .before .before .args .session in
-    by-request s (e .before .before .request .given .1) (wrote-answer s (lineLength 3) _ (e .evaluation .ensures) (f .answered .ensures))
+returns-3 c = let f = c .before .before in let e = f .before .before in by-request _ (e .before .before .request .given .1) (f .answered .ensures _ (e .evaluation .ensures))
 
 same-length-3 : tie.Need-same-length-3
 same-length-3 c = search needs
 
 returns-4 : tie.Need-returns-4
-returns-4 c =
-    let f = c .before .before in
-    let e = f .before .before in
-    let s = e .before .before .before .before .before .before .args .session in
-    by-request s (e .before .before .request2 .given .1) (wrote-answer s (lineLength 3) _ (e .subdivision .ensures) (f .answered2 .ensures))
+returns-4 c = let f = c .before .before in let e = f .before .before in by-request _ (e .before .before .request2 .given .1) (f .answered2 .ensures _ (e .subdivision .ensures))
 
 same-length-4 : tie.Need-same-length-4
 same-length-4 c = search needs
 
 returns-5 : tie.Need-returns-5
-returns-5 c =
-    let f = c .before .before in
-    let e = f .before .before in
-    let s = e .before .before .before .before .before .args .session in
-    by-request s (e .before .enum-told3 .given .1) (wrote-answer s (lineLength 1) _ (e .elevation .ensures) (f .answered3 .ensures))
+returns-5 c = let f = c .before .before in let e = f .before .before in by-request _ (e .before .enum-told3 .given .1) (f .answered3 .ensures _ (e .elevation .ensures))
 
 same-length-5 : tie.Need-same-length-5
 same-length-5 c = search needs
 
 returns-6 : tie.Need-returns-6
-returns-6 c =
-    let f = c .before .before in
-    let e = f .before .before in
-    let s = e .before .before .before .before .before .args .session in
-    by-request s (e .before .enum-told4 .given .1) (wrote-answer s (lineLength 1) _ (e .enclosure .ensures) (f .answered4 .ensures))
+returns-6 c = let f = c .before .before in let e = f .before .before in by-request _ (e .before .enum-told4 .given .1) (f .answered4 .ensures _ (e .enclosure .ensures))
 
 same-length-6 : tie.Need-same-length-6
 same-length-6 c = search needs
 
 returns-7 : tie.Need-returns-7
-returns-7 c =
-    let f = c .before .before in
-    let e = f .before .before in
-    let s = e .before .before .before .before .before .before .args .session in
-    by-request s (e .before .before .request3 .given .1) (wrote-answer s (lineLength 7) _ (e .verdict .ensures) (f .answered5 .ensures))
+returns-7 c = let f = c .before .before in let e = f .before .before in by-request _ (e .before .before .request3 .given .1) (f .answered5 .ensures _ (e .verdict .ensures))
 
 pub call-step-spec : {M : Type 1} → statement M
 call-step-spec =

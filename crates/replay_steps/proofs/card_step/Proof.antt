@@ -5,7 +5,6 @@ use borrow.Author.Tests.{not-true, not-false}
 use Rattle.replay_steps.specs.Step.{Effect, opening}
 use Rattle.replay_steps.specs.Inner.{Wrote}
 use Rattle.replay_steps.proofs.Cards.{card-stops, card-opens}
-use Rattle.replay_steps.proofs.Replies.{wrote-answer}
 use borrow.Author.Needs.{needs}
 use Rattle.replay_steps.proofs.card_step.Statement.{statement}
 use Rattle.replay_steps.proofs.card_step.Tie as tie
@@ -55,7 +54,7 @@ returns-2 c =
     let opens = card-opens (s .args .session) (s .args .input .now) _ (card .read-card .result) (card .before .card-at .ensures) (card .read-card .ensures)
     (sym (w .is-whole .ensures) ∙ not-false (w .is-whole .result) (x .if1 .left)) in
     subst (λ (e : Effect). Wrote e (s .args .out .now) (f .answered .result) (f .answered .last .1 .1 .1 .0)) opens
-    (wrote-answer (s .args .session) _ (opening (card .read-card .result)) (o .opening .ensures) (f .answered .ensures))
+    (f .answered .ensures (opening (card .read-card .result)) (o .opening .ensures))
 
 pub card-step-spec : {M : Type 1} → statement M
 card-step-spec =
