@@ -96,17 +96,16 @@ pub fn count_claim(changes: i64, tally: &mut Tally) {
     tally.cover(CHANGES, changes);
 }
 
-const ENDINGS: [&str; 3] = ["after the text", "at a bad line", "inside a card"];
+const ENDINGS: [&str; 2] = ["after the text", "at a bad card or line"];
 
 /// One run of `replay` on a damaged text.
 pub fn count_ending(ending: Ending, tally: &mut Tally) {
-    let [after, bad, inside] = ENDINGS;
+    let [after, bad] = ENDINGS;
     tally.cover(
         STOPS,
         match ending {
             Ending::AfterText => after,
             Ending::AtBadLine => bad,
-            Ending::InsideCard => inside,
         },
     );
 }
@@ -160,7 +159,7 @@ pub fn require_all(tally: &Tally) -> Result<(), String> {
     tally.require(NUMBERS, ACCEPTED..=9, 1_000)?;
     tally.require(VERDICTS, 1..=4, 1_000)?;
     tally.require(CHANGES, 0..MAX_CALLS, 100)?;
-    tally.require(STOPS, [ENDINGS[0], ENDINGS[1]], 10)?;
+    tally.require(STOPS, ENDINGS, 10)?;
     tally.require(CARD_NUMBERS, [ACCEPTED, 1, 2, 3, 10, 11], 10)?;
     tally.require(PANEL_NUMBERS, [ACCEPTED, 1, 2, 3, 4, 5, 10, 11, 12], 1_000)?;
     tally.require(

@@ -12,7 +12,7 @@ use crate::process::run;
 use crate::rng::Rng;
 use crate::session::Session;
 use crate::tally::{disagreement, visible, Tally};
-use crate::text::{answers_to, text_of, Answers, Ending};
+use crate::text::{answers_to, text_of, Answers};
 use std::path::Path;
 
 /// The row of an answer to a card (no call) or a call.
@@ -146,12 +146,8 @@ fn try_claim(
 pub fn compare_text(program: &Path, text: &[u8], tally: &mut Tally) -> Result<(), String> {
     let Answers { lines, ending } = answers_to(text);
     let came = run(program, text)?;
-    let agrees = match ending {
-        Ending::InsideCard => came.ended_well && came.bytes.starts_with(&lines),
-        Ending::AfterText | Ending::AtBadLine => came.is(&lines),
-    };
     count_ending(ending, tally);
-    tally.compare("replay, damaged texts", agrees, || {
+    tally.compare("replay, damaged texts", came.is(&lines), || {
         disagreement(text, &lines, &came.bytes)
     })
 }

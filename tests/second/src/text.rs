@@ -2,13 +2,13 @@
 
 use crate::call::{Call, Kept};
 use crate::card::{card_length, card_of, curve_of, degree_of, line_of, number_of, numbers_in};
-use crate::card::{COLUMN, FIRST_LINE, LINE};
+use crate::card::COLUMN;
 use crate::cases::{Case, MAX_WORD};
 use crate::model::{Curve, Parameter, Refusal};
 use crate::search::Search;
 use crate::session::Session;
 
-/// The first column of the line that ends a run at a bad line.
+/// The first column of the line that ends a run at a bad card or call line.
 const STOPPED: i64 = 99;
 
 /// The columns of a call line.
@@ -42,8 +42,6 @@ pub fn text_of(case: &Case) -> Vec<u8> {
 pub enum Ending {
     AfterText,
     AtBadLine,
-    /// After a whole line of a card that is not complete. The format leaves open what follows.
-    InsideCard,
 }
 
 /// What `replay` writes on some bytes.
@@ -58,10 +56,6 @@ pub fn answers_to(text: &[u8]) -> Answers {
     let mut ending = Ending::AfterText;
     let mut offset = 0;
     while offset < text.len() {
-        if ends_inside_a_card(&text[offset..]) {
-            ending = Ending::InsideCard;
-            break;
-        }
         match case_at(text, offset, &mut lines) {
             Ok(end) => offset = end,
             Err(bad) => {
@@ -87,11 +81,6 @@ fn case_at(text: &[u8], mut offset: usize, written: &mut Vec<u8>) -> Result<usiz
         written.extend(line_of(&session.answer(&call).0));
     }
     Ok(offset)
-}
-
-fn ends_inside_a_card(rest: &[u8]) -> bool {
-    let length = degree_of(rest).map_or(0, card_length);
-    rest.len() < length && (rest.len() - FIRST_LINE).is_multiple_of(LINE)
 }
 
 /// The length of a card whose end can be found, and the curve or refusal 2 or 3.
@@ -205,7 +194,7 @@ mod tests {
         assert_eq!(answers_to(b"         1"), stopped(vec![], 0));
         assert_eq!(answers_to(&line_of(&[9])), stopped(vec![], 0));
         assert_eq!(answers_to(&text(&CARD)[..90]), stopped(vec![], 0));
-        assert_eq!(answers_to(&text(&CARD[..2])).ending, Ending::InsideCard);
+        assert_eq!(answers_to(&text(&CARD[..2])), stopped(vec![], 0));
         let second = [text(&CARD), line_of(&[0]), b"x".to_vec()].concat();
         assert_eq!(answers_to(&second), stopped(line_of(&[0, 1]), 104));
     }
