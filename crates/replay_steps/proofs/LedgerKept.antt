@@ -84,7 +84,7 @@ shows c now l s kept e sums = record { curve = e; sum = sums; shown = shown }
         let none = ap (λ (x : Evaluation). x .refusal .number) (evaluated-accepted now num den (kept .accepted) at) in
         let degrees = kept .degrees in
         let same : min (s .sum + now .degree) largest ≡ min (l .sum + l .degree) largest = omega arith in
-        rw (e, eq-eqb (evaluated now num den .refusal .number) 0 none, same)
+        rw (e, eq-eqb (evaluated now num den .refusal .number) 0 none) (ap (λ (n : ℕ). pos 0 ∷ (sides (evaluated now num den .load) ++ (pos n ∷ []))) same)
 
 follows : (c : Curve) (calls : List Call) (now : Curve) (l : Ledger) (s : Case) → Kept c l now → s .curve ≡ now → s .sum ≡ min (l .sum) largest →
     Follows (foldl leaves now calls) (foldl after l calls) (foldl caseAfter s calls)
