@@ -4,7 +4,7 @@ use mathlib.Core.Path.{_≡_, sym, subst}
 use mathlib.Core.Bool.{true}
 use Prim.Native.Nat.{ℕ, _≤_}
 use lib.Dec.{T, leb, leb→le}
-use Rattle.curve.proofs.Accepted.{both}
+use Rattle.curve.proofs.Tests.{both}
 use Rattle.bench_calls.specs.Slices.{curveSides, enough}
 
 pub long : (sides room needed : ℕ) → enough sides room needed ≡ true → (curveSides ≤ sides) × (needed ≤ room)

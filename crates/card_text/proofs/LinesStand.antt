@@ -10,7 +10,7 @@ use Rattle.curve.specs.declared.Rect.{Rect}
 use Rattle.curve.specs.Limits.{maxDegree}
 use Rattle.curve.specs.Curve.{point}
 use Rattle.curve.proofs.Points.{point-at}
-use Rattle.curve.proofs.Accepted.{or-split}
+use Rattle.curve.proofs.Tests.{or-split}
 use Rattle.card_text.specs.Card.{header, row, rows, cardOf, rowLength, rowAt, headerLength}
 use Rattle.card_text.specs.Reading.{numberAt, degreeOf, intervalAt, rectAt, decoded, columnRefusal, lineEndRefusal, endsRefusal, rowRefusal, rowsRefusal}
 use Rattle.card_text.proofs.Degree.{degree-back}

@@ -13,7 +13,8 @@ use Rattle.curve.specs.declared.Refusal.{Refusal}
 use Rattle.curve.specs.Rect.{zeroRect}
 use Rattle.curve.specs.Curve.{point, zeroCurve, SameCurve}
 use Rattle.curve.specs.Refusals.{none, _orElse_, curveRefusal, Accepted, unlessAt}
-use Rattle.curve.proofs.Accepted.{accepted-facts, number-accepted, or-split}
+use Rattle.curve.proofs.Tests.{or-split}
+use Rattle.curve.proofs.Accepted.{accepted-facts, number-accepted}
 use Rattle.curve.proofs.Points.{point-past}
 use Rattle.card_text.specs.declared.CardRead.{CardRead}
 use Rattle.card_text.specs.declared.CardWritten.{CardWritten}

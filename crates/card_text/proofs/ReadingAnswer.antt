@@ -12,7 +12,7 @@ use Rattle.curve.specs.Limits.{maxDegree}
 use Rattle.curve.specs.Curve.{zeroCurve}
 use Rattle.curve.specs.Refusals.{_orElse_, degreeRefusal, rangeRefusal, orderRefusal, curveRefusal}
 use Rattle.curve.proofs.Refused.{or-first, or-second}
-use Rattle.curve.proofs.Accepted.{or-split}
+use Rattle.curve.proofs.Tests.{or-split}
 use Rattle.card_text.specs.declared.CardRead.{CardRead}
 use Rattle.card_text.specs.Card.{cardLength}
 use Rattle.card_text.specs.Reading.{decoded, columnRefusal, lineEndRefusal, shortRefusal, lengthRefusal, headerRefusal, rowsRefusal, cardRefusal, readCard}

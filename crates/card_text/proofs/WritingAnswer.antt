@@ -14,7 +14,8 @@ use Rattle.curve.specs.declared.Curve.{Curve}
 use Rattle.curve.specs.declared.Refusal.{Refusal}
 use Rattle.curve.specs.Curve.{point}
 use Rattle.curve.specs.Refusals.{none, curveRefusal, Accepted, unlessAt}
-use Rattle.curve.proofs.Accepted.{number-accepted, accepted-facts, or-split}
+use Rattle.curve.proofs.Tests.{or-split}
+use Rattle.curve.proofs.Accepted.{number-accepted, accepted-facts}
 use Rattle.card_text.specs.declared.CardWritten.{CardWritten}
 use Rattle.card_text.specs.Card.{header, rows, cardOf, headerLength, cardLength}
 use Rattle.card_text.specs.Writing.{writingRefusal, writeCard, bytesAfter}

@@ -6,6 +6,7 @@ pub mod Rises
 pub mod Refused
 pub mod Places
 pub mod Stages
+pub mod Tests
 pub mod Accepted
 pub mod Answers
 pub mod Points

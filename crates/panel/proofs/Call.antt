@@ -11,7 +11,8 @@ use Rattle.curve.specs.declared.Refusal.{Refusal}
 use Rattle.curve.specs.Refusals.{refusal, none, _orElse_, parameterRefusal, Accepted, AcceptedAt, unlessAt}
 use Rattle.curve.specs.Calls.{evaluated}
 use Rattle.curve.proofs.Refused.{or-first, or-second, number-passed}
-use Rattle.curve.proofs.Accepted.{number-accepted-at, call-parameter, or-split}
+use Rattle.curve.proofs.Tests.{or-split}
+use Rattle.curve.proofs.Accepted.{number-accepted-at, call-parameter}
 use Rattle.curve.proofs.Answers.{evaluated-refusal}
 use Rattle.card_text.specs.Reading.{cardRefusal, readCard}
 use Rattle.card_text.proofs.Accepting.{unless-zero}

@@ -9,7 +9,8 @@ use Rattle.curve.specs.declared.Curve.{Curve}
 use Rattle.curve.specs.declared.Refusal.{Refusal}
 use Rattle.curve.specs.Refusals.{none, _orElse_, unless, curveRefusal, Accepted}
 use Rattle.curve.proofs.Refused.{by-number}
-use Rattle.curve.proofs.Accepted.{or-split, or-none, unless-holds, unless-none, between-holds, between-none, number-accepted}
+use Rattle.curve.proofs.Tests.{or-split, or-none, unless-holds, unless-none, between-holds, between-none}
+use Rattle.curve.proofs.Accepted.{number-accepted}
 use Rattle.curve.proofs.Answers.{where-none, where-some}
 use Rattle.search.specs.declared.SearchAnswer.{SearchAnswer}
 use Rattle.search.specs.declared.Verdict.{Verdict}

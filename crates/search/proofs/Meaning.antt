@@ -21,7 +21,7 @@ use Rattle.curve.specs.declared.Curve.{Curve}
 use Rattle.curve.specs.Rect.{Coordinate, resistance, reactance, end, along, side, Outward, Inside}
 use Rattle.curve.specs.Calls.{bounded}
 use Rattle.curve.specs.Refusals.{Accepted}
-use Rattle.curve.proofs.Accepted.{both}
+use Rattle.curve.proofs.Tests.{both}
 use Rattle.ledger.specs.Ordinary.{Ordinary, InsideOf, loadAt}
 use Rattle.ledger.specs.Ledger.{parameter}
 use Rattle.search.specs.declared.Verdict.{Verdict}

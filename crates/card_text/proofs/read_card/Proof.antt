@@ -10,7 +10,8 @@ use Rattle.curve.specs.declared.Refusal.{Refusal}
 use Rattle.curve.specs.Limits.{maxDegree}
 use Rattle.curve.specs.Curve.{curveOf}
 use Rattle.curve.specs.Refusals.{_orElse_, curveRefusal}
-use Rattle.curve.proofs.Accepted.{number-accepted, or-split}
+use Rattle.curve.proofs.Tests.{or-split}
+use Rattle.curve.proofs.Accepted.{number-accepted}
 use Rattle.card_text.specs.Card.{rowAt, cardLength}
 use Rattle.card_text.specs.Reading.{rectAt, decoded, headerRefusal, rowsRefusal, cardRefusal}
 use Rattle.card_text.proofs.ReadingAnswer.{first-line, card-first, card-later, read-refused, read-accepted}

@@ -6,7 +6,7 @@ use Rattle.curve.specs.declared.Refusal.{Refusal}
 use Rattle.curve.specs.Limits.{maxDegree}
 use Rattle.curve.specs.Refusals.{_orElse_, rangeRefusal, orderRefusal, curveRefusal}
 use Rattle.curve.proofs.Refused.{or-first, or-second, number-passed}
-use Rattle.curve.proofs.Accepted.{between-holds}
+use Rattle.curve.proofs.Tests.{between-holds}
 use Rattle.curve.proofs.checks.curve_refusal.Statement.{statement}
 use Rattle.curve.proofs.checks.curve_refusal.Tie as tie
 
