@@ -1,4 +1,4 @@
--- The rounded table and the rounded raising keep a bound on the control points, and keep the order of two sequences, over any divisor and either rounding.
+-- The rounded table and the rounded elevation keep a bound on the control points, and keep the order of two sequences, over any divisor and either rounding.
 -- Assumes nothing.
 use Prim.Native.Nat.{ℕ, suc, _+_, _≤_, _<_}
 use native.Mathlib.Omega.{arith}
@@ -11,7 +11,7 @@ use Rattle.rational.proofs.Quotient.{convex-lower, convex-upper, convex-mono}
 use Rattle.bernstein.specs.DeCasteljau.{table}
 use Rattle.bernstein.specs.Affine.{affine}
 use Rattle.bernstein.proofs.Table.{table-relation, table-property}
-use Rattle.bernstein.proofs.Raised.{raised, raised-relation, raised-property}
+use Rattle.bernstein.proofs.Elevate.{elevate, elevate-relation, elevate-property}
 
 -- the rounded map with the weights k and n + 1 - k over the divisor n + 1
 abbrev pub rounded : Rounding → ℕ → ℕ → ℕ → ℤ → ℤ → ℤ
@@ -42,8 +42,8 @@ module _ (r : Rounding) (low high : ℤ) where
         (s t d : ℕ) → s + t ≡ d → 0 < d → (j k : ℕ) → j + k ≤ n → Within low high (table (affine r s t d) P j k)
     table-within s t d h l = table-property (Within low high) (affine-within s t d h l) n bounded
 
-    pub raised-within : (k : ℕ) → k ≤ suc n → Within low high (raised (rounded r n) n P k)
-    raised-within = raised-property (Within low high) (Within low high) n (λ k m h. affine-within k m (suc n) h (omega arith)) (rounded-edge r n) bounded
+    pub elevate-within : (k : ℕ) → k ≤ suc n → Within low high (elevate (rounded r n) n P k)
+    elevate-within = elevate-property (Within low high) (Within low high) n (λ k m h. affine-within k m (suc n) h (omega arith)) (rounded-edge r n) bounded
 
 -- ---- the order of two sequences, for two roundings of which one is at most the other
 
@@ -57,5 +57,5 @@ module _ (r r′ : Rounding) (ordered : (d : ℕ) → 0 < d → (z : ℤ) → qu
         (s t d : ℕ) → 0 < d → (j k : ℕ) → j + k ≤ n → table (affine r s t d) P j k ≤ℤ table (affine r′ s t d) Q j k
     table-ordered s t d l = table-relation (λ j a x. a ≤ℤ x) (λ j. affine-ordered s t d l) n below
 
-    pub raised-ordered : (k : ℕ) → k ≤ suc n → raised (rounded r n) n P k ≤ℤ raised (rounded r′ n) n Q k
-    raised-ordered = raised-relation _≤ℤ_ _≤ℤ_ n (λ k m h. affine-ordered k m (suc n) (omega arith)) (rounded-edge r n) (rounded-edge r′ n) below
+    pub elevate-ordered : (k : ℕ) → k ≤ suc n → elevate (rounded r n) n P k ≤ℤ elevate (rounded r′ n) n Q k
+    elevate-ordered = elevate-relation _≤ℤ_ _≤ℤ_ n (λ k m h. affine-ordered k m (suc n) (omega arith)) (rounded-edge r n) (rounded-edge r′ n) below

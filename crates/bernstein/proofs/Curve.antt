@@ -1,4 +1,4 @@
--- A curve over the rational numbers as a function of its parameter: its pieces and its raised form are the curve itself, and its value is the Bernstein sum.
+-- A curve over the rational numbers as a function of its parameter: its pieces and its elevated form are the curve itself, and its value is the Bernstein sum.
 -- Assumes nothing.
 use Prim.Native.Nat.{ℕ, suc, _<_}
 use mathlib.Core.Path.{_≡_, sym, ap, _∙_}
@@ -9,9 +9,9 @@ use Rattle.bernstein.specs.DeCasteljau.{value, left, right}
 use Rattle.bernstein.specs.Bernstein.{bernstein}
 use Rattle.bernstein.proofs.Semiring.{Semiring, polynomial}
 use Rattle.bernstein.proofs.Exact.{mix}
-use Rattle.bernstein.proofs.Raised.{raised}
+use Rattle.bernstein.proofs.Elevate.{elevate}
 use Rattle.bernstein.proofs.Subdivision.{left-value, right-value}
-use Rattle.bernstein.proofs.Elevation.{raised-value}
+use Rattle.bernstein.proofs.Elevation.{elevate-value}
 use Rattle.bernstein.proofs.Rationals.{rationals, mean, mean-weighted, one-ratio, bernstein-value}
 
 -- the value at x of the curve of degree n
@@ -47,7 +47,7 @@ module _ (𝓢 : Semiring) where
       let q : u ⊗ t ⊕ v ⊗ (s ⊕ t) ≡ (u ⊕ v) ⊗ t ⊕ s ⊗ v = simp polynomial in
       p ∙ ap (λ x. u ⊗ t ⊕ v ⊗ x) (sym h) ∙ q ∙ ap (λ x. x ⊗ t ⊕ s ⊗ v) k ∙ simp polynomial
 
--- the pieces of a curve cut at t, and its raised form
+-- the pieces of a curve subdivided at t, and its elevated form
 module _ (P : ℕ → ℚ) (n : ℕ) (x : ℚ) where
   pub left-curve : (s t : ℚ) → s +ℚ t ≡ embed (pos 1) → curve (left (mix rationals s t) P) n x ≡ curve P n (x *ℚ t)
   unfolding curve
@@ -61,8 +61,8 @@ module _ (P : ℕ → ℚ) (n : ℕ) (x : ℚ) where
       curve-at P n _ _ (right-unit rationals s t (embed (pos 1) -ℚ x) x h (-ℚ-cancel (embed (pos 1)) x)) ∙
       ap (curve P n) (right-parameter rationals s t (embed (pos 1) -ℚ x) x h (-ℚ-cancel (embed (pos 1)) x))
 
-  pub raised-curve : (positive : 0 < suc n) → curve (raised (mean (suc n) positive) n P) (suc n) x ≡ curve P n x
+  pub elevate-curve : (positive : 0 < suc n) → curve (elevate (mean (suc n) positive) n P) (suc n) x ≡ curve P n x
   unfolding curve
-  raised-curve positive =
-      ap (λ f. curve (raised f n P) (suc n) x) (sym (mean-weighted (suc n) positive)) ∙
-      raised-value rationals (embed (pos 1) -ℚ x) x P (-ℚ-cancel (embed (pos 1)) x) _ n (one-ratio (suc n) positive)
+  elevate-curve positive =
+      ap (λ f. curve (elevate f n P) (suc n) x) (sym (mean-weighted (suc n) positive)) ∙
+      elevate-value rationals (embed (pos 1) -ℚ x) x P (-ℚ-cancel (embed (pos 1)) x) _ n (one-ratio (suc n) positive)

@@ -1,10 +1,10 @@
--- Raising the degree of a curve by one over a commutative semiring does not change its value.
+-- Degree elevation by one over a commutative semiring does not change its value.
 -- Assumes nothing.
 use Prim.Native.Nat.{ℕ, zero, suc, _+_, _-_}
 use native.Mathlib.Omega.{arith}
 use mathlib.Core.Path.{_≡_, refl, sym, ap, ap₂, _∙_}
 use Rattle.bernstein.specs.DeCasteljau.{table, value}
-use Rattle.bernstein.proofs.Raised.{raised}
+use Rattle.bernstein.proofs.Elevate.{elevate}
 use Rattle.bernstein.proofs.Semiring.{Semiring, polynomial, natural, plus-times, one-times}
 use Rattle.bernstein.proofs.Exact.{mix}
 
@@ -66,14 +66,14 @@ module _ (𝓢 : Semiring) (s t : 𝓢 .carrier) (P : ℕ → 𝓢 .carrier) whe
     unfolding earlier natural
     last-term j k = rw (earlier-stage j k, unit) (sym (plus-times 𝓢 _ _ _))
 
-    -- a stage of the raised sequence is a sum of three stages of the old one
-    raised-table : (m j k : ℕ) → m + j + k ≡ suc n →
-        table (mix 𝓢 s t) (raised (weighted 𝓢 e) n P) j k ≡
+    -- a stage of the elevated sequence is a sum of three stages of the old one
+    elevate-table : (m j k : ℕ) → m + j + k ≡ suc n →
+        table (mix 𝓢 s t) (elevate (weighted 𝓢 e) n P) j k ≡
         e ⊗ (natural 𝓢 k ⊗ table (mix 𝓢 s t) P j (k - 1) ⊕ natural 𝓢 m ⊗ table (mix 𝓢 s t) P j k ⊕ earlier j k)
-    unfolding table raised weighted earlier natural
-    raised-table m zero k h = let q : suc n - k ≡ m = omega arith in rw q (start _ _ _ _)
-    raised-table m (suc j) k h =
-        ap₂ (mix 𝓢 s t) (raised-table (suc m) j k (omega arith)) (raised-table m j (suc k) (omega arith)) ∙
+    unfolding table elevate weighted earlier natural
+    elevate-table m zero k h = let q : suc n - k ≡ m = omega arith in rw q (start _ _ _ _)
+    elevate-table m (suc j) k h =
+        ap₂ (mix 𝓢 s t) (elevate-table (suc m) j k (omega arith)) (elevate-table m j (suc k) (omega arith)) ∙
         (let q : suc k - 1 ≡ k = omega arith in
         rw q
         (rearranged e (natural 𝓢 k) (natural 𝓢 m) _ _ _ _ _ ∙
@@ -82,6 +82,6 @@ module _ (𝓢 : Semiring) (s t : 𝓢 .carrier) (P : ℕ → 𝓢 .carrier) whe
     cancel : (c x y : carrier) → c ⊗ e ≡ one → e ⊗ (nought ⊗ y ⊕ nought ⊗ y ⊕ c ⊗ x) ≡ x
     cancel c x y inverse = let q : e ⊗ (nought ⊗ y ⊕ nought ⊗ y ⊕ c ⊗ x) ≡ c ⊗ e ⊗ x = simp polynomial in q ∙ rw inverse (one-times 𝓢 x)
 
-    pub raised-value : natural 𝓢 (suc n) ⊗ e ≡ one → value (mix 𝓢 s t) (raised (weighted 𝓢 e) n P) (suc n) ≡ value (mix 𝓢 s t) P n
+    pub elevate-value : natural 𝓢 (suc n) ⊗ e ≡ one → value (mix 𝓢 s t) (elevate (weighted 𝓢 e) n P) (suc n) ≡ value (mix 𝓢 s t) P n
     unfolding value earlier natural
-    raised-value inverse = raised-table 0 (suc n) 0 (omega arith) ∙ cancel (natural 𝓢 (suc n)) _ _ inverse
+    elevate-value inverse = elevate-table 0 (suc n) 0 (omega arith) ∙ cancel (natural 𝓢 (suc n)) _ _ inverse

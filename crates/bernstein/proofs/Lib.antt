@@ -1,6 +1,6 @@
 -- Laws of the definitions in specs/.
 pub mod Table
-pub mod Raised
+pub mod Elevate
 pub mod Semiring
 pub mod Exact
 pub mod Subdivision

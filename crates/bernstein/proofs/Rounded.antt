@@ -1,4 +1,4 @@
--- How far the rounded table and the rounded raising lie from the exact ones, above and below, over any degree, any divisor and either rounding.
+-- How far the rounded table and the rounded elevation lie from the exact ones, above and below, over any degree, any divisor and either rounding.
 -- Assumes nothing.
 use Prim.Native.Nat.{ℕ, suc, _+_, _*_, _-_, _≤_, _<_}
 use native.Mathlib.Nat.{mul-suc, add-suc, add-zero, add-comm, mul-le-mul-left}
@@ -14,7 +14,7 @@ use Rattle.bernstein.specs.DeCasteljau.{table, left, right}
 use Rattle.bernstein.specs.Affine.{affine}
 use Rattle.bernstein.proofs.Exact.{mix}
 use Rattle.bernstein.proofs.Table.{table-relation}
-use Rattle.bernstein.proofs.Raised.{raised, raised-relation}
+use Rattle.bernstein.proofs.Elevate.{elevate, elevate-relation}
 use Rattle.bernstein.proofs.Bounds.{rounded, rounded-edge}
 use Rattle.bernstein.proofs.Rationals.{mean, mean-edge}
 use Rattle.bernstein.proofs.Convex.{Excess, excess-trans, excess-weaken, mix-excess, convex-ratio}
@@ -94,11 +94,11 @@ module _ (r : Rounding) (s t d : ℕ) (whole-weight : s + t ≡ d) (positive : 0
     unfolding right
     right-near k h = entry-near (n - k) k (omega arith)
 
--- one raising is one rounding further
-pub raised-near :
+-- one elevation is one rounding further
+pub elevate-near :
     (r : Rounding) (n : ℕ) (positive : 0 < suc n) (side : Side) (P : ℕ → ℤ) (q : ℕ → ℚ) (c : ℕ) →
     ((k : ℕ) → k ≤ n → Near side (error side r * c) (P k) (q k)) →
-    (k : ℕ) → k ≤ suc n → Near side (error side r * suc c) (raised (rounded r n) n P k) (raised (mean (suc n) positive) n q k)
-raised-near r n positive side P q c =
-    raised-relation (Near side (error side r * c)) (Near side (error side r * suc c)) n
+    (k : ℕ) → k ≤ suc n → Near side (error side r * suc c) (elevate (rounded r n) n P k) (elevate (mean (suc n) positive) n q k)
+elevate-near r n positive side P q c =
+    elevate-relation (Near side (error side r * c)) (Near side (error side r * suc c)) n
     (λ k m h a b x y u v. rw mul-suc (affine-near r k m (suc n) h positive side _ a b x y u v)) (rounded-edge r n) (mean-edge n positive)

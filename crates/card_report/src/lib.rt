@@ -44,8 +44,8 @@ pub fn report(input: &[u8], out: &mut [u8]) -> usize
         return REFUSAL_LENGTH;
     }
     let enclosure = bounds(read.curve);
-    let reading = evaluate(read.curve, 1, 2);
+    let evaluation = evaluate(read.curve, 1, 2);
     put_line(out, 0, &sides(enclosure.rect));
-    put_line(out, LINE_LENGTH, &sides(reading.load));
+    put_line(out, LINE_LENGTH, &sides(evaluation.load));
     LINES_LENGTH
 }

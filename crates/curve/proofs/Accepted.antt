@@ -15,7 +15,7 @@ use Rattle.curve.specs.declared.Refusal.{Refusal}
 use Rattle.curve.specs.Limits.{maxDegree, maxDen, maxSide}
 use Rattle.curve.specs.Rect.{Coordinate, resistance, reactance, end, side, inRange, endsInRange, sidesInRange, endsOrdered, sidesOrdered}
 use Rattle.curve.specs.Curve.{point}
-use Rattle.curve.specs.Refusals.{none, _orElse_, unless, rangeRefusal, orderRefusal, curveRefusal, parameterRefusal, raisingRefusal, degreeRefusal, Accepted, AcceptedAt}
+use Rattle.curve.specs.Refusals.{none, _orElse_, unless, rangeRefusal, orderRefusal, curveRefusal, parameterRefusal, highestRefusal, degreeRefusal, Accepted, AcceptedAt}
 use Rattle.curve.specs.Inner.{Side, Factors, Ready}
 use Rattle.curve.specs.Calls.{callRefusal, elevationRefusal}
 use Rattle.curve.proofs.Tests.{both, join, or-split, or-none, unless-holds, unless-none, first-holds, first-none, between-holds, between-none}
@@ -144,23 +144,23 @@ pub accepted-call : (c : Curve) (num den : ℕ) → Accepted c → AcceptedAt nu
 accepted-call c num den a b = call-parameter c num den a ∙ b
 
 -- the degree is below the highest
-pub number-raising : (n : ℕ) → raisingRefusal n .number ≡ 0 → n < maxDegree
-unfolding raisingRefusal
-number-raising n h = ltb→lt n maxDegree (unless-holds (ltb n maxDegree) 5 h)
+pub number-highest : (n : ℕ) → highestRefusal n .number ≡ 0 → n < maxDegree
+unfolding highestRefusal
+number-highest n h = ltb→lt n maxDegree (unless-holds (ltb n maxDegree) 5 h)
 
-pub raising-accepted : (n : ℕ) → n < maxDegree → raisingRefusal n ≡ none
-unfolding raisingRefusal
-raising-accepted n h = unless-none (ltb n maxDegree) 6 (lt→ltb n maxDegree h)
+pub highest-accepted : (n : ℕ) → n < maxDegree → highestRefusal n ≡ none
+unfolding highestRefusal
+highest-accepted n h = unless-none (ltb n maxDegree) 6 (lt→ltb n maxDegree h)
 
 pub elevation-accepted : (c : Curve) → elevationRefusal c .number ≡ 0 → Accepted c × (c .degree < maxDegree)
 unfolding elevationRefusal
 elevation-accepted c h =
-    let (first, second) = or-split (curveRefusal c) (raisingRefusal (c .degree)) h in
-    (number-accepted c first, number-raising (c .degree) second)
+    let (first, second) = or-split (curveRefusal c) (highestRefusal (c .degree)) h in
+    (number-accepted c first, number-highest (c .degree) second)
 
-pub elevation-raising : (c : Curve) → Accepted c → elevationRefusal c ≡ raisingRefusal (c .degree)
+pub elevation-highest : (c : Curve) → Accepted c → elevationRefusal c ≡ highestRefusal (c .degree)
 unfolding elevationRefusal
-elevation-raising c a = or-none (curveRefusal c) (raisingRefusal (c .degree)) a
+elevation-highest c a = or-none (curveRefusal c) (highestRefusal (c .degree)) a
 
 pub accepted-elevation : (c : Curve) → Accepted c → c .degree < maxDegree → elevationRefusal c ≡ none
-accepted-elevation c a h = elevation-raising c a ∙ raising-accepted (c .degree) h
+accepted-elevation c a h = elevation-highest c a ∙ highest-accepted (c .degree) h

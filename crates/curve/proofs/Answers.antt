@@ -13,7 +13,7 @@ use Rattle.curve.specs.declared.Elevation.{Elevation}
 use Rattle.curve.specs.declared.Enclosure.{Enclosure}
 use Rattle.curve.specs.Limits.{maxDegree}
 use Rattle.curve.specs.Rect.{zeroRect}
-use Rattle.curve.specs.Curve.{zeroCurve, loadOf, leftOf, rightOf, raisedOf, boundsOf}
+use Rattle.curve.specs.Curve.{zeroCurve, loadOf, leftOf, rightOf, elevatedOf, boundsOf}
 use Rattle.curve.specs.Ohms.{ohmsOf, zeroOhms}
 use Rattle.curve.specs.Refusals.{none, curveRefusal, Accepted, AcceptedAt}
 use Rattle.curve.specs.Calls.{callRefusal, elevationRefusal, evaluated, subdivided, elevated, bounded}
@@ -75,17 +75,17 @@ module _ (c : Curve) (num den : ℕ) where
   subdivided-refusal = in-both (subdivision (leftOf c num den) (rightOf c num den)) (subdivision zeroCurve zeroCurve) (callRefusal c num den) (λ x. x .refusal) _ refl refl
 
 module _ (c : Curve) where
-  pub elevated-accepted : Accepted c → c .degree < maxDegree → elevated c ≡ elevation (raisedOf c) none
+  pub elevated-accepted : Accepted c → c .degree < maxDegree → elevated c ≡ elevation (elevatedOf c) none
   unfolding elevated
-  elevated-accepted a h = where-none (elevation (raisedOf c)) (elevation zeroCurve) (elevationRefusal c) (accepted-elevation c a h)
+  elevated-accepted a h = where-none (elevation (elevatedOf c)) (elevation zeroCurve) (elevationRefusal c) (accepted-elevation c a h)
 
   pub elevated-refused : eqb (elevationRefusal c .number) 0 ≡ false → elevated c ≡ elevation zeroCurve (elevationRefusal c)
   unfolding elevated
-  elevated-refused h = where-some (elevation (raisedOf c)) (elevation zeroCurve) (elevationRefusal c) h
+  elevated-refused h = where-some (elevation (elevatedOf c)) (elevation zeroCurve) (elevationRefusal c) h
 
   pub elevated-refusal : elevated c .refusal ≡ elevationRefusal c
   unfolding elevated
-  elevated-refusal = in-both (elevation (raisedOf c)) (elevation zeroCurve) (elevationRefusal c) (λ x. x .refusal) _ refl refl
+  elevated-refusal = in-both (elevation (elevatedOf c)) (elevation zeroCurve) (elevationRefusal c) (λ x. x .refusal) _ refl refl
 
   pub bounded-accepted : Accepted c → bounded c ≡ enclosure (boundsOf c) none
   unfolding bounded

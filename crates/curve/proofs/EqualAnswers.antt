@@ -9,7 +9,7 @@ use Rattle.curve.specs.declared.Rect.{Rect}
 use Rattle.curve.specs.declared.Curve.{Curve}
 use Rattle.curve.specs.declared.Refusal.{Refusal}
 use Rattle.curve.specs.Rect.{zeroRect}
-use Rattle.curve.specs.Curve.{curveOf, zeroCurve, loadOf, leftOf, rightOf, raisedOf, boundsOf}
+use Rattle.curve.specs.Curve.{curveOf, zeroCurve, loadOf, leftOf, rightOf, elevatedOf, boundsOf}
 use Rattle.curve.specs.Refusals.{curveRefusal}
 use Rattle.curve.specs.Calls.{callRefusal, elevationRefusal, evaluated, subdivided, elevated, bounded}
 use Rattle.curve.proofs.Places.{points-agree}
@@ -28,7 +28,7 @@ module _ (c e : Curve) (num den num′ den′ : ℕ) (refusals : callRefusal c n
       cond (eqb (r .number) 0) (subdivision (p i) (q i) r) (subdivision zeroCurve zeroCurve r)
 
 module _ (c e : Curve) where
-  pub elevated-equal : elevationRefusal c ≡ elevationRefusal e → raisedOf c ≡ raisedOf e → elevated c ≡ elevated e
+  pub elevated-equal : elevationRefusal c ≡ elevationRefusal e → elevatedOf c ≡ elevatedOf e → elevated c ≡ elevated e
   unfolding elevated
   elevated-equal = ap₂ (λ (r : Refusal) (a : Curve). cond (eqb (r .number) 0) (elevation a r) (elevation zeroCurve r))
 

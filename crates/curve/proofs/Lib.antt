@@ -22,4 +22,4 @@ pub mod BoundsHeld
 pub mod ZeroPast
 pub mod RectSides
 pub mod EqualAnswers
-pub mod RaisedPoints
+pub mod ElevatedPoints

@@ -14,8 +14,8 @@ use Rattle.curve.specs.declared.Curve.{Curve}
 use Rattle.curve.specs.declared.Refusal.{Refusal}
 use Rattle.curve.specs.Limits.{maxDegree}
 use Rattle.curve.specs.Rect.{sidesInRange, sidesOrdered, affineRect, hull}
-use Rattle.curve.specs.Curve.{point, SameCurve, curveOf, mapAt, loadOf, leftOf, rightOf, raisedPoint, raisedOf, hullTo, boundsOf}
-use Rattle.curve.specs.Refusals.{refusal, _orElse_, unless, firstFailing, rangeRefusal, orderRefusal, curveRefusal, parameterRefusal, raisingRefusal}
+use Rattle.curve.specs.Curve.{point, SameCurve, curveOf, mapAt, loadOf, leftOf, rightOf, elevatedPoint, elevatedOf, hullTo, boundsOf}
+use Rattle.curve.specs.Refusals.{refusal, _orElse_, unless, firstFailing, rangeRefusal, orderRefusal, curveRefusal, parameterRefusal, highestRefusal}
 use Rattle.curve.specs.Calls.{callRefusal, elevationRefusal}
 use Rattle.curve.specs.Promises.{PastUnread}
 use Rattle.curve.proofs.EndPoints.{affine-rect-first}
@@ -59,9 +59,9 @@ module _ (n : ℕ) {P Q : ℕ → Rect} (agree : Agree n P Q) where
   right-agree map = curveOf-equal n (DeCasteljau.right map P n) (DeCasteljau.right map Q n) (λ k l. table-agree map n agree (n - k) k (omega arith))
 
   -- the point past the degree has weight 0
-  raised-point-agree : (k : ℕ) → k ≤ n + 1 → raisedPoint n P k ≡ raisedPoint n Q k
-  unfolding raisedPoint
-  raised-point-agree k h = go (eq-or-lt-of-le h)
+  elevated-point-agree : (k : ℕ) → k ≤ n + 1 → elevatedPoint n P k ≡ elevatedPoint n Q k
+  unfolding elevatedPoint
+  elevated-point-agree k h = go (eq-or-lt-of-le h)
     where
       edge : (R : ℕ → Rect) → affineRect (n + 1) (n + 1 - (n + 1)) (n + 1) (R (n + 1 - 1)) (R (n + 1)) ≡ R n
       edge R =
@@ -69,14 +69,14 @@ module _ (n : ℕ) {P Q : ℕ → Rect} (agree : Agree n P Q) where
           ap₂ (λ (t : ℕ) (p : Rect). affineRect (n + 1) t (n + 1) p (R (n + 1))) (sub-self (n + 1)) (ap R last)
           ∙ affine-rect-first (n + 1) (omega arith) (R n) (R (n + 1))
 
-      go : (k ≡ n + 1) ⊎ (k < n + 1) → raisedPoint n P k ≡ raisedPoint n Q k
+      go : (k ≡ n + 1) ⊎ (k < n + 1) → elevatedPoint n P k ≡ elevatedPoint n Q k
       go (inl e) =
-          subst (λ (j : ℕ). raisedPoint n P j ≡ raisedPoint n Q j) (sym e)
+          subst (λ (j : ℕ). elevatedPoint n P j ≡ elevatedPoint n Q j) (sym e)
           (edge P ∙ agree n (le-refl n) ∙ sym (edge Q))
       go (inr l) = ap₂ (affineRect k (n + 1 - k) (n + 1)) (agree (k - 1) (omega arith)) (agree k (omega arith))
 
-  raised-agree : curveOf (n + 1) (raisedPoint n P) ≡ curveOf (n + 1) (raisedPoint n Q)
-  raised-agree = curveOf-equal (n + 1) (raisedPoint n P) (raisedPoint n Q) raised-point-agree
+  elevated-agree : curveOf (n + 1) (elevatedPoint n P) ≡ curveOf (n + 1) (elevatedPoint n Q)
+  elevated-agree = curveOf-equal (n + 1) (elevatedPoint n P) (elevatedPoint n Q) elevated-point-agree
 
   load-agree : (map : Rect → Rect → Rect) → DeCasteljau.value map P n ≡ DeCasteljau.value map Q n
   unfolding DeCasteljau.value
@@ -101,7 +101,7 @@ module _ (c e : Curve) (same : SameCurve c e) where
   call-refusals num den = ap (λ (r : Refusal). r orElse parameterRefusal num den) refusals
 
 pub past-unread : PastUnread
-unfolding elevationRefusal loadOf leftOf rightOf raisedOf boundsOf
+unfolding elevationRefusal loadOf leftOf rightOf elevatedOf boundsOf
 past-unread c e same =
     let n = c .degree in
     let agree = same .controls in (
@@ -110,7 +110,7 @@ past-unread c e same =
       λ num den. subdivided-equal c e num den num den (call-refusals c e same num den)
           (unread c e same (λ m P. curveOf m (DeCasteljau.left (mapAt num den) P)) (left-agree n agree (mapAt num den)))
           (unread c e same (λ m P. curveOf m (DeCasteljau.right (mapAt num den) P m)) (right-agree n agree (mapAt num den))),
-      elevated-equal c e (ap₂ (λ (r : Refusal) (m : ℕ). r orElse raisingRefusal m) (refusals c e same) (same .degrees))
-          (unread c e same (λ m P. curveOf (m + 1) (raisedPoint m P)) (raised-agree n agree)),
+      elevated-equal c e (ap₂ (λ (r : Refusal) (m : ℕ). r orElse highestRefusal m) (refusals c e same) (same .degrees))
+          (unread c e same (λ m P. curveOf (m + 1) (elevatedPoint m P)) (elevated-agree n agree)),
       bounded-equal c e (refusals c e same) (unread c e same (λ m P. hullTo P m) (hull-agree n agree)),
     )

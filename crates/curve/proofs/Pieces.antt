@@ -1,4 +1,4 @@
--- The pieces of an accepted curve at an accepted parameter are accepted and of its degree, and so is its raised curve, of one degree more.
+-- The pieces of an accepted curve at an accepted parameter are accepted and of its degree, and so is its elevated curve, of one degree more.
 -- Assumes nothing.
 use mathlib.Core.Path.{_≡_, refl, sym, ap, _∙_, subst, subst₂}
 use Prim.Native.Nat.{ℕ, _+_, _-_, _≤_, _<_}
@@ -10,18 +10,18 @@ use Rattle.rational.specs.Rounding.{Rounding, down, up}
 use Rattle.rational.proofs.Quotient.{down-up}
 use Rattle.bernstein.specs.DeCasteljau.{table, left, right}
 use Rattle.bernstein.proofs.Table.{left-last, right-first}
-use Rattle.bernstein.proofs.Bounds.{Within, table-within, table-ordered, raised-within, raised-ordered}
+use Rattle.bernstein.proofs.Bounds.{Within, table-within, table-ordered, elevate-within, elevate-ordered}
 use Rattle.curve.specs.declared.Rect.{Rect}
 use Rattle.curve.specs.declared.Curve.{Curve}
 use Rattle.curve.specs.Limits.{maxDegree, maxSide}
 use Rattle.curve.specs.Rect.{Coordinate, side}
-use Rattle.curve.specs.Curve.{point, curveOf, mapAt, loadOf, leftOf, rightOf, raisedPoint, raisedOf}
+use Rattle.curve.specs.Curve.{point, curveOf, mapAt, loadOf, leftOf, rightOf, elevatedPoint, elevatedOf}
 use Rattle.curve.specs.Refusals.{Accepted, AcceptedAt}
 use Rattle.curve.specs.Inner.{Side}
-use Rattle.curve.specs.Promises.{Pieces, GoodPieces, GoodRaised}
+use Rattle.curve.specs.Promises.{Pieces, GoodPieces, GoodElevation}
 use Rattle.curve.proofs.Accepted.{Facts, accepted-facts, facts-accepted, parameter-facts}
 use Rattle.curve.proofs.Answers.{evaluated-accepted, subdivided-accepted, elevated-accepted}
-use Rattle.curve.proofs.Points.{sides, point-at, side-table, side-raised}
+use Rattle.curve.proofs.Points.{sides, point-at, side-table, side-elevated}
 
 side-within : {z : ℤ} → Side z → Within (negℤ (pos maxSide)) (pos maxSide) z
 side-within h = record { least = h .from; most = h .to }
@@ -64,15 +64,15 @@ module _ (c : Curve) (accepted : Accepted c) where
     unfolding rightOf right
     right-accepted = entries-accepted (λ k. c .degree - k) (λ k. k) (λ k h. omega arith)
 
-  pub raised-accepted : c .degree < maxDegree → Accepted (raisedOf c)
-  unfolding raisedOf
-  raised-accepted few =
+  pub elevatedOf-accepted : c .degree < maxDegree → Accepted (elevatedOf c)
+  unfolding elevatedOf
+  elevatedOf-accepted few =
       let one-more = known .some in
-      given-accepted (c .degree + 1) (raisedPoint (c .degree) (point c)) (omega arith) (omega arith)
-      (λ k h x r. subst Side (sym (side-raised x r (point c) (c .degree) k))
-      (within-side (raised-within r _ _ (sides x r (point c)) (c .degree) (λ k h. side-within (known .inRange k h x r)) k (omega arith))))
-      (λ k h x. subst₂ _≤ℤ_ (sym (side-raised x down (point c) (c .degree) k)) (sym (side-raised x up (point c) (c .degree) k))
-      (raised-ordered down up down-up (sides x down (point c)) (sides x up (point c)) (c .degree) (λ k h. known .ordered k h x) k (omega arith)))
+      given-accepted (c .degree + 1) (elevatedPoint (c .degree) (point c)) (omega arith) (omega arith)
+      (λ k h x r. subst Side (sym (side-elevated x r (point c) (c .degree) k))
+      (within-side (elevate-within r _ _ (sides x r (point c)) (c .degree) (λ k h. side-within (known .inRange k h x r)) k (omega arith))))
+      (λ k h x. subst₂ _≤ℤ_ (sym (side-elevated x down (point c) (c .degree) k)) (sym (side-elevated x up (point c) (c .degree) k))
+      (elevate-ordered down up down-up (sides x down (point c)) (sides x up (point c)) (c .degree) (λ k h. known .ordered k h x) k (omega arith)))
 
 -- ---- control points and sides
 
@@ -85,9 +85,9 @@ module _ (c : Curve) (num den : ℕ) where
   unfolding rightOf
   right-point k few h = point-at (c .degree) (right (mapAt num den) (point c) (c .degree)) k few h
 
-pub raised-point : (c : Curve) (k : ℕ) → c .degree < maxDegree → k ≤ c .degree + 1 → point (raisedOf c) k ≡ raisedPoint (c .degree) (point c) k
-unfolding raisedOf
-raised-point c k few h = point-at (c .degree + 1) (raisedPoint (c .degree) (point c)) k (omega arith) h
+pub elevated-point : (c : Curve) (k : ℕ) → c .degree < maxDegree → k ≤ c .degree + 1 → point (elevatedOf c) k ≡ elevatedPoint (c .degree) (point c) k
+unfolding elevatedOf
+elevated-point c k few h = point-at (c .degree + 1) (elevatedPoint (c .degree) (point c)) k (omega arith) h
 
 pub left-degree : (c : Curve) (num den : ℕ) → leftOf c num den .degree ≡ c .degree
 unfolding leftOf
@@ -97,9 +97,9 @@ pub right-degree : (c : Curve) (num den : ℕ) → rightOf c num den .degree ≡
 unfolding rightOf
 right-degree c num den = refl
 
-pub raised-degree : (c : Curve) → raisedOf c .degree ≡ c .degree + 1
-unfolding raisedOf
-raised-degree c = refl
+pub elevated-degree : (c : Curve) → elevatedOf c .degree ≡ c .degree + 1
+unfolding elevatedOf
+elevated-degree c = refl
 
 -- ---- the load
 
@@ -125,7 +125,7 @@ good-pieces c num den accepted at =
     few : c .degree ≤ maxDegree
     few = accepted-facts c accepted .few
 
-pub good-raised : GoodRaised
-good-raised c accepted few =
+pub good-elevation : GoodElevation
+good-elevation c accepted few =
     subst (λ e. Accepted (e .curve) × (e .curve .degree ≡ c .degree + 1)) (sym (elevated-accepted c accepted few))
-    (raised-accepted c accepted few, raised-degree c)
+    (elevatedOf-accepted c accepted few, elevated-degree c)

@@ -9,12 +9,12 @@ use Rattle.rational.specs.Rounding.{Rounding, down, up}
 use Rattle.bernstein.specs.Affine.{affine}
 use Rattle.bernstein.specs.DeCasteljau.{table, value, left, right}
 use Rattle.bernstein.proofs.Table.{table-image}
-use Rattle.bernstein.proofs.Raised.{raised}
+use Rattle.bernstein.proofs.Elevate.{elevate}
 use Rattle.bernstein.proofs.Bounds.{rounded}
 use Rattle.curve.specs.declared.Rect.{Rect}
 use Rattle.curve.specs.Limits.{maxDegree}
 use Rattle.curve.specs.Rect.{Coordinate, resistance, reactance, side, zeroRect, affineInterval, affineRect}
-use Rattle.curve.specs.Curve.{point, curveOf, raisedPoint}
+use Rattle.curve.specs.Curve.{point, curveOf, elevatedPoint}
 use Rattle.curve.proofs.Places.{points-at, points-past}
 
 -- ---- places
@@ -57,8 +57,8 @@ module _ (x : Coordinate) (r : Rounding) (P : ℕ → Rect) where
     unfolding right
     side-right n k = side-table (n - k) k
 
-  pub side-raised : (n k : ℕ) → side x r (raisedPoint n P k) ≡ raised (rounded r n) n (sides x r P) k
-  unfolding raisedPoint raised
-  side-raised n k =
+  pub side-elevated : (n k : ℕ) → side x r (elevatedPoint n P k) ≡ elevate (rounded r n) n (sides x r P) k
+  unfolding elevatedPoint elevate
+  side-elevated n k =
       side-affine x r k (n + 1 - k) (n + 1) (P (k - 1)) (P k)
       ∙ ap (λ (m : ℕ). affine r k (m - k) m (sides x r P (k - 1)) (sides x r P k)) (add-one n)

@@ -12,7 +12,7 @@ use Rattle.curve.specs.declared.Elevation.{Elevation}
 use Rattle.curve.specs.declared.Subdivision.{Subdivision}
 use Rattle.curve.specs.Limits.{maxDegree}
 use Rattle.curve.specs.Rect.{Coordinate, resistance, reactance, side, zeroRect}
-use Rattle.curve.specs.Curve.{point, zeroCurve, leftOf, rightOf, raisedOf}
+use Rattle.curve.specs.Curve.{point, zeroCurve, leftOf, rightOf, elevatedOf}
 use Rattle.curve.specs.Refusals.{Accepted}
 use Rattle.curve.specs.Inner.{Side, Held}
 use Rattle.curve.specs.Calls.{callRefusal, elevationRefusal, subdivided, elevated}
@@ -20,7 +20,7 @@ use Rattle.curve.proofs.Refused.{by-number}
 use Rattle.curve.proofs.Accepted.{accepted-ready, call-accepted, elevation-accepted}
 use Rattle.curve.proofs.Answers.{subdivided-accepted, subdivided-refused, elevated-accepted, elevated-refused}
 use Rattle.curve.proofs.Points.{point-at}
-use Rattle.curve.proofs.Pieces.{left-accepted, right-accepted, raised-accepted}
+use Rattle.curve.proofs.Pieces.{left-accepted, right-accepted, elevatedOf-accepted}
 
 pub record Ranged (c : Curve) : Type 0 where
   pub few : c .degree ≤ maxDegree
@@ -67,13 +67,13 @@ pieces-ranged c num den = by-number (callRefusal c num den .number) accepted ref
     refused : eqb (callRefusal c num den .number) 0 ≡ false → Both (subdivided c num den)
     refused e = subst Both (sym (subdivided-refused c num den e)) (zero-ranged, zero-ranged)
 
-pub raised-ranged : (c : Curve) → Ranged (elevated c .curve)
-raised-ranged c = by-number (elevationRefusal c .number) accepted refused
+pub elevated-ranged : (c : Curve) → Ranged (elevated c .curve)
+elevated-ranged c = by-number (elevationRefusal c .number) accepted refused
   where
     accepted : elevationRefusal c .number ≡ 0 → Ranged (elevated c .curve)
     accepted h =
         let (ok, below) = elevation-accepted c h in
-        subst (λ (e : Elevation). Ranged (e .curve)) (sym (elevated-accepted c ok below)) (accepted-ranged (raisedOf c) (raised-accepted c ok below))
+        subst (λ (e : Elevation). Ranged (e .curve)) (sym (elevated-accepted c ok below)) (accepted-ranged (elevatedOf c) (elevatedOf-accepted c ok below))
 
     refused : eqb (elevationRefusal c .number) 0 ≡ false → Ranged (elevated c .curve)
     refused e = subst (λ (x : Elevation). Ranged (x .curve)) (sym (elevated-refused c e)) zero-ranged

@@ -10,15 +10,15 @@ use Rattle.curve.specs.declared.Subdivision.{Subdivision}
 use Rattle.curve.specs.declared.Elevation.{Elevation}
 use Rattle.curve.specs.declared.Enclosure.{Enclosure}
 use Rattle.curve.specs.Rect.{zeroRect}
-use Rattle.curve.specs.Curve.{zeroCurve, loadOf, leftOf, rightOf, raisedOf, boundsOf}
+use Rattle.curve.specs.Curve.{zeroCurve, loadOf, leftOf, rightOf, elevatedOf, boundsOf}
 use Rattle.curve.specs.Ohms.{ohmsOf, zeroOhms}
-use Rattle.curve.specs.Refusals.{_orElse_, curveRefusal, parameterRefusal, raisingRefusal}
+use Rattle.curve.specs.Refusals.{_orElse_, curveRefusal, parameterRefusal, highestRefusal}
 
 -- refusals 1 to 5
 unfoldable pub callRefusal : Curve → ℕ → ℕ → Refusal
 callRefusal c num den = curveRefusal c orElse parameterRefusal num den
 
--- the reading
+-- evaluation (the paper's reading)
 unfoldable pub evaluated : Curve → ℕ → ℕ → Evaluation
 evaluated c num den =
     let r = callRefusal c num den in
@@ -26,7 +26,7 @@ evaluated c num den =
     (record { refusal = r; load = loadOf c num den; ohms = ohmsOf (loadOf c num den) })
     (record { refusal = r; load = zeroRect; ohms = zeroOhms })
 
--- the cut
+-- subdivision (its cut)
 unfoldable pub subdivided : Curve → ℕ → ℕ → Subdivision
 subdivided c num den =
     let r = callRefusal c num den in
@@ -34,16 +34,16 @@ subdivided c num den =
     (record { refusal = r; left = leftOf c num den; right = rightOf c num den })
     (record { refusal = r; left = zeroCurve; right = zeroCurve })
 
--- raising the degree: refusals 1 to 3, and 6
+-- degree elevation (its raising): refusals 1 to 3, and 6
 unfoldable pub elevationRefusal : Curve → Refusal
-elevationRefusal c = curveRefusal c orElse raisingRefusal (c .degree)
+elevationRefusal c = curveRefusal c orElse highestRefusal (c .degree)
 
 unfoldable pub elevated : Curve → Elevation
 elevated c =
     let r = elevationRefusal c in
-    cond (eqb (r .number) 0) (record { refusal = r; curve = raisedOf c }) (record { refusal = r; curve = zeroCurve })
+    cond (eqb (r .number) 0) (record { refusal = r; curve = elevatedOf c }) (record { refusal = r; curve = zeroCurve })
 
--- the span
+-- the bounds (its span)
 unfoldable pub bounded : Curve → Enclosure
 bounded c =
     let r = curveRefusal c in

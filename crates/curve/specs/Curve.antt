@@ -1,4 +1,4 @@
--- Curves and what is computed from an accepted one: the load, both pieces, the raised curve and the bounds.
+-- Curves and what is computed from an accepted one: the load, both pieces, the elevated curve and the bounds.
 -- Control points are read by number, and those past the degree play no part.
 -- Assumes nothing.
 use mathlib.Core.Path.{_≡_}
@@ -53,11 +53,11 @@ unfoldable pub rightOf : Curve → ℕ → ℕ → Curve
 rightOf c num den = curveOf (c .degree) (DeCasteljau.right (mapAt num den) (point c) (c .degree))
 
 -- control point k of the curve of degree n + 1: (k × P(k−1) + (n + 1 − k) × P(k)) / (n + 1); at k = 0 and k = n + 1 the absent point has factor 0
-unfoldable pub raisedPoint : ℕ → (ℕ → Rect) → ℕ → Rect
-raisedPoint n P k = affineRect k (n + 1 - k) (n + 1) (P (k - 1)) (P k)
+unfoldable pub elevatedPoint : ℕ → (ℕ → Rect) → ℕ → Rect
+elevatedPoint n P k = affineRect k (n + 1 - k) (n + 1) (P (k - 1)) (P k)
 
-unfoldable pub raisedOf : Curve → Curve
-raisedOf c = curveOf (c .degree + 1) (raisedPoint (c .degree) (point c))
+unfoldable pub elevatedOf : Curve → Curve
+elevatedOf c = curveOf (c .degree + 1) (elevatedPoint (c .degree) (point c))
 
 -- the least rectangle that holds P 0 to P n
 unfoldable pub hullTo : (ℕ → Rect) → ℕ → Rect

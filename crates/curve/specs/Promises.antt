@@ -52,9 +52,9 @@ GoodPieces =
     (c : Curve) (num den : ℕ) → Accepted c → AcceptedAt num den →
     Pieces c (subdivided c num den) (evaluated c num den .load)
 
--- the raised curve of an accepted curve below the highest degree is accepted, of degree n + 1
-abbrev pub GoodRaised : Type 0
-GoodRaised =
+-- an accepted curve below the highest degree, elevated, is accepted, of degree n + 1
+abbrev pub GoodElevation : Type 0
+GoodElevation =
     (c : Curve) → Accepted c → c .degree < maxDegree → Accepted (elevated c .curve) × (elevated c .curve .degree ≡ c .degree + 1)
 
 -- bounds holds every control point, and lies inside every rectangle that does

@@ -51,9 +51,9 @@ curveRefusal c = degreeRefusal (c .degree) orElse rangeRefusal c orElse orderRef
 unfoldable pub parameterRefusal : ℕ → ℕ → Refusal
 parameterRefusal num den = unless (leb 1 den && leb den maxDen) 4 orElse unless (leb num den) 5
 
--- 6: raising at the highest degree
-unfoldable pub raisingRefusal : ℕ → Refusal
-raisingRefusal degree = unless (ltb degree maxDegree) 6
+-- 6: elevation at the highest degree
+unfoldable pub highestRefusal : ℕ → Refusal
+highestRefusal degree = unless (ltb degree maxDegree) 6
 
 -- a curve and a parameter that are not refused
 abbrev pub Accepted : Curve → Type 0

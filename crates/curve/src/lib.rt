@@ -6,16 +6,16 @@ ghost use Rattle.curve.specs.Calls.{evaluated, subdivided, elevated, bou
 mod affine;
 mod checks;
 mod display;
+mod elevating;
 mod hull;
-mod raising;
 mod table;
 mod zeros;
 
 use checks::call_refusal;
 use checks::elevation_refusal;
 use display::ohms_of;
+use elevating::elevated_points;
 use hull::hull_of;
-use raising::raised_points;
 use table::table_of;
 
 // The check of a degree by itself, refusal 1, and of a curve by itself, refusals 1 to 3.
@@ -162,7 +162,7 @@ pub fn elevate(c: Curve) -> Elevation
             curve: zero_curve(),
         };
     }
-    let points = raised_points(c);
+    let points = elevated_points(c);
     let degree = c.degree + 1;
     Elevation {
         refusal,

@@ -8,12 +8,12 @@ use Rattle.search.specs.Box.{within, disjoint, inBox, apartFrom, isBox}
 use Rattle.search.specs.Walk.{stepAt, walked}
 use Rattle.search.specs.Search.{boxRefusal, searchRefusal, searched}
 use Rattle.curve.specs.Rect.{least, greatest, hullInterval, hull, inRange, endsInRange, sidesInRange, endsOrdered, sidesOrdered, affineInterval, affineRect}
-use Rattle.curve.specs.Curve.{tabulate, pointsOf, loadOf, leftOf, rightOf, raisedPoint, raisedOf, hullTo, boundsOf}
-use Rattle.curve.specs.Refusals.{firstFailing, rangeRefusal, orderRefusal, curveRefusal, parameterRefusal, raisingRefusal}
+use Rattle.curve.specs.Curve.{tabulate, pointsOf, loadOf, leftOf, rightOf, elevatedPoint, elevatedOf, hullTo, boundsOf}
+use Rattle.curve.specs.Refusals.{firstFailing, rangeRefusal, orderRefusal, curveRefusal, parameterRefusal, highestRefusal}
 use Rattle.curve.specs.Calls.{callRefusal, elevationRefusal, evaluated, subdivided, elevated, bounded}
 use Rattle.examples.specs.Shown.{resistancesFrom, resistancesShown}
 use Rattle.examples.specs.Examples.{cardCurve, examples, Agree}
 
 pub agree : Agree
-unfolding floor ceiling quotient affine table value left right inRange endsInRange sidesInRange endsOrdered sidesOrdered affineInterval affineRect tabulate pointsOf loadOf leftOf rightOf raisedPoint raisedOf firstFailing rangeRefusal orderRefusal curveRefusal parameterRefusal raisingRefusal callRefusal elevationRefusal evaluated subdivided elevated bounded resistancesFrom resistancesShown cardCurve examples least greatest hullInterval hull hullTo boundsOf within disjoint inBox apartFrom isBox stepAt walked boxRefusal searchRefusal searched
+unfolding floor ceiling quotient affine table value left right inRange endsInRange sidesInRange endsOrdered sidesOrdered affineInterval affineRect tabulate pointsOf loadOf leftOf rightOf elevatedPoint elevatedOf firstFailing rangeRefusal orderRefusal curveRefusal parameterRefusal highestRefusal callRefusal elevationRefusal evaluated subdivided elevated bounded resistancesFrom resistancesShown cardCurve examples least greatest hullInterval hull hullTo boundsOf within disjoint inBox apartFrom isBox stepAt walked boxRefusal searchRefusal searched
 agree = refl

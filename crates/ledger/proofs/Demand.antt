@@ -13,17 +13,17 @@ use Rattle.curve.specs.declared.Curve.{Curve}
 use Rattle.curve.specs.declared.Rect.{Rect}
 use Rattle.curve.specs.declared.Refusal.{Refusal}
 use Rattle.curve.specs.Limits.{maxDegree}
-use Rattle.curve.specs.Curve.{leftOf, rightOf, raisedOf}
-use Rattle.curve.specs.Refusals.{raisingRefusal, Accepted, AcceptedAt}
-use Rattle.curve.proofs.Accepted.{parameter-facts, number-accepted-at, call-parameter, elevation-raising, number-raising}
+use Rattle.curve.specs.Curve.{leftOf, rightOf, elevatedOf}
+use Rattle.curve.specs.Refusals.{highestRefusal, Accepted, AcceptedAt}
+use Rattle.curve.proofs.Accepted.{parameter-facts, number-accepted-at, call-parameter, elevation-highest, number-highest}
 use Rattle.curve.proofs.Answers.{evaluated-accepted, evaluated-refusal, subdivided-accepted, subdivided-refusal, elevated-accepted, elevated-refusal}
-use Rattle.curve.proofs.Pieces.{left-accepted, right-accepted, raised-accepted, left-degree, right-degree, raised-degree}
+use Rattle.curve.proofs.Pieces.{left-accepted, right-accepted, elevatedOf-accepted, left-degree, right-degree, elevated-degree}
 use Rattle.ledger.specs.Ordinary.{Ordinary, InsideOf}
-use Rattle.ledger.specs.Ledger.{Ledger, Call, reading, cut, raising, left, right, opened, parameter, placeOf, refused, entered, after, refusalOf, answerOf, leaves}
-use Rattle.ledger.specs.Claim.{Sound, AtCall, Along, Demand, OneReading}
+use Rattle.ledger.specs.Ledger.{Ledger, Call, evaluate, subdivide, elevate, left, right, opened, parameter, placeOf, refused, entered, after, refusalOf, answerOf, leaves}
+use Rattle.ledger.specs.Claim.{Sound, AtCall, Along, Demand, OneEvaluation}
 use Rattle.ledger.proofs.Stretch.{Stretch, whole-stretch, joined, renamed}
-use Rattle.ledger.proofs.Steps.{left-stretch, right-stretch, raised-stretch}
-use Rattle.ledger.proofs.Reading.{sound}
+use Rattle.ledger.proofs.Steps.{left-stretch, right-stretch, elevated-stretch}
+use Rattle.ledger.proofs.Evaluation.{sound}
 
 -- what is kept along the list: the present curve is accepted, of the ledger's degree, and the stretch of the starting curve that the ledger says
 pub record Kept (c : Curve) (l : Ledger) (now : Curve) : Type 0 where
@@ -44,19 +44,19 @@ place-is l t = sym (rat-add (l .start) (l .width *ᶠ t) ∙ ap (λ x. rat (l .s
 module _ (c : Curve) (l : Ledger) (now : Curve) (kept : Kept c l now) where
   -- the ledger's refusal is the call's
   pub same-refusal : (call : Call) → refusalOf now call ≡ refused l call
-  same-refusal (reading num den) = evaluated-refusal now num den ∙ call-parameter now num den (kept .accepted)
-  same-refusal (cut num den piece) = subdivided-refusal now num den ∙ call-parameter now num den (kept .accepted)
-  same-refusal raising = elevated-refusal now ∙ elevation-raising now (kept .accepted) ∙ ap raisingRefusal (kept .degrees)
+  same-refusal (evaluate num den) = evaluated-refusal now num den ∙ call-parameter now num den (kept .accepted)
+  same-refusal (subdivide num den piece) = subdivided-refusal now num den ∙ call-parameter now num den (kept .accepted)
+  same-refusal elevate = elevated-refusal now ∙ elevation-highest now (kept .accepted) ∙ ap highestRefusal (kept .degrees)
 
   -- an accepted reading is sound
-  pub reading-sound : (o : Ordinary) → InsideOf o c → (call : Call) → AtCall c o l now call
-  reading-sound o inside (reading num den) = λ h.
-      let at : AcceptedAt num den = sym (same-refusal (reading num den)) ∙ h in
+  pub evaluation-sound : (o : Ordinary) → InsideOf o c → (call : Call) → AtCall c o l now call
+  evaluation-sound o inside (evaluate num den) = λ h.
+      let at : AcceptedAt num den = sym (same-refusal (evaluate num den)) ∙ h in
       subst₂ (λ (n : ℕ) (p : Rect). Sound c o (placeOf l (parameter num den)) (l .sum + n) p) (kept .degrees)
       (ap (λ e. e .load) (sym (evaluated-accepted now num den (kept .accepted) at)))
       (sound c now _ _ _ (kept .stretch) num den (parameter-facts num den at .factors) _ (place-is l (parameter num den)) o inside)
-  reading-sound o inside (cut num den piece) = tt
-  reading-sound o inside raising = tt
+  evaluation-sound o inside (subdivide num den piece) = tt
+  evaluation-sound o inside elevate = tt
 
   -- a stretch of the present curve takes its place
   followed :
@@ -69,24 +69,24 @@ module _ (c : Curve) (l : Ledger) (now : Curve) (kept : Kept c l now) where
 
   -- an accepted call keeps it
   entered-kept : (call : Call) → refused l call .number ≡ 0 → Kept c (entered l call) (answerOf now call)
-  entered-kept (reading num den) h = kept
-  entered-kept (cut num den left) h =
+  entered-kept (evaluate num den) h = kept
+  entered-kept (subdivide num den left) h =
       let at = number-accepted-at num den h in
-      subst (λ s. Kept c (entered l (cut num den left)) (s .left)) (sym (subdivided-accepted now num den (kept .accepted) at))
-      (followed (leftOf now num den) _ _ _ (entered l (cut num den left)) (left-accepted now (kept .accepted) num den at)
+      subst (λ s. Kept c (entered l (subdivide num den left)) (s .left)) (sym (subdivided-accepted now num den (kept .accepted) at))
+      (followed (leftOf now num den) _ _ _ (entered l (subdivide num den left)) (left-accepted now (kept .accepted) num den at)
       (left-stretch now (kept .accepted) num den (parameter-facts num den at .factors)) (left-degree now num den ∙ kept .degrees)
       same-start (sym (rat-mul (l .width) (parameter num den))) (ap (λ (n : ℕ). l .sum + n) (kept .degrees)))
-  entered-kept (cut num den right) h =
+  entered-kept (subdivide num den right) h =
       let at = number-accepted-at num den h in
-      subst (λ s. Kept c (entered l (cut num den right)) (s .right)) (sym (subdivided-accepted now num den (kept .accepted) at))
-      (followed (rightOf now num den) _ _ _ (entered l (cut num den right)) (right-accepted now (kept .accepted) num den at)
+      subst (λ s. Kept c (entered l (subdivide num den right)) (s .right)) (sym (subdivided-accepted now num den (kept .accepted) at))
+      (followed (rightOf now num den) _ _ _ (entered l (subdivide num den right)) (right-accepted now (kept .accepted) num den at)
       (right-stretch now (kept .accepted) num den (parameter-facts num den at .factors)) (right-degree now num den ∙ kept .degrees)
       (place-is l (parameter num den)) (sym (rat-mul (l .width) (complement (parameter num den)))) (ap (λ (n : ℕ). l .sum + n) (kept .degrees)))
-  entered-kept raising h =
-      let few : now .degree < maxDegree = subst (λ (n : ℕ). n < maxDegree) (sym (kept .degrees)) (number-raising (l .degree) h) in
-      subst (λ e. Kept c (entered l raising) (e .curve)) (sym (elevated-accepted now (kept .accepted) few))
-      (followed (raisedOf now) _ _ _ (entered l raising) (raised-accepted now (kept .accepted) few)
-      (raised-stretch now (kept .accepted) few) (raised-degree now ∙ ap (λ (n : ℕ). n + 1) (kept .degrees))
+  entered-kept elevate h =
+      let few : now .degree < maxDegree = subst (λ (n : ℕ). n < maxDegree) (sym (kept .degrees)) (number-highest (l .degree) h) in
+      subst (λ e. Kept c (entered l elevate) (e .curve)) (sym (elevated-accepted now (kept .accepted) few))
+      (followed (elevatedOf now) _ _ _ (entered l elevate) (elevatedOf-accepted now (kept .accepted) few)
+      (elevated-stretch now (kept .accepted) few) (elevated-degree now ∙ ap (λ (n : ℕ). n + 1) (kept .degrees))
       same-start (*ℚ-one (rat (l .width))) refl)
 
   -- and so does every call
@@ -104,14 +104,14 @@ module _ (c : Curve) (l : Ledger) (now : Curve) (kept : Kept c l now) where
 along : (c : Curve) (o : Ordinary) → InsideOf o c → (calls : List Call) (l : Ledger) (now : Curve) → Kept c l now → Along c o l now calls
 along c o inside [] l now kept = tt
 along c o inside (call ∷ calls) l now kept =
-    (same-refusal c l now kept call, reading-sound c l now kept o inside call, along c o inside calls (after l call) (leaves now call) (after-kept c l now kept call))
+    (same-refusal c l now kept call, evaluation-sound c l now kept o inside call, along c o inside calls (after l call) (leaves now call) (after-kept c l now kept call))
 
 -- demand 3
 pub demand : Demand
 demand c accepted o inside calls = along c o inside calls (opened c) c (opened-kept c accepted)
 
 -- the corollary of one reading: the whole stretch, read at the parameter
-pub one-reading : OneReading
-one-reading c accepted o inside num den at =
+pub one-evaluation : OneEvaluation
+one-evaluation c accepted o inside num den at =
     subst₂ (λ (n : ℕ) (p : Rect). Sound c o (parameter num den) n p) (zero-add (c .degree)) (ap (λ e. e .load) (sym (evaluated-accepted c num den accepted at)))
     (sound c c _ _ _ (whole-stretch c) num den (parameter-facts num den at .factors) (parameter num den) (zero-+ℚ _ ∙ one-*ℚ _) o inside)

@@ -1,4 +1,4 @@
--- The two pieces of an accepted curve and its raised curve are stretches of it, with the ledger's widths and sums.
+-- The two pieces of an accepted curve and its elevated curve are stretches of it, with the ledger's widths and sums.
 -- Assumes nothing.
 use mathlib.Core.Path.{_≡_, sym, ap, ap₂, _∙_, subst}
 use Prim.Native.Nat.{ℕ, suc, pred, _+_, _*_, _-_, _≤_, _<_}
@@ -9,19 +9,19 @@ use Rattle.rational.specs.Fraction.{complement}
 use Rattle.rational.proofs.Rational.{rat, embed, _+ℚ_, _-ℚ_, _*ℚ_, zero-+ℚ, one-*ℚ, *ℚ-comm, +ℚ-cancel, rat-complement}
 use Rattle.rational.proofs.Division.{ratio, ratio-weights, ratio-equal, rat-ratio}
 use Rattle.bernstein.specs.DeCasteljau.{left, right}
-use Rattle.bernstein.proofs.Raised.{raised}
+use Rattle.bernstein.proofs.Elevate.{elevate}
 use Rattle.bernstein.proofs.Rationals.{mean}
-use Rattle.bernstein.proofs.Curve.{curve, left-curve, right-curve, raised-curve}
-use Rattle.bernstein.proofs.Rounded.{Near, error, left-near, right-near, raised-near}
+use Rattle.bernstein.proofs.Curve.{curve, left-curve, right-curve, elevate-curve}
+use Rattle.bernstein.proofs.Rounded.{Near, error, left-near, right-near, elevate-near}
 use Rattle.curve.specs.declared.Curve.{Curve}
 use Rattle.curve.specs.Limits.{maxDegree}
 use Rattle.curve.specs.Rect.{side}
-use Rattle.curve.specs.Curve.{point, leftOf, rightOf, raisedOf}
+use Rattle.curve.specs.Curve.{point, leftOf, rightOf, elevatedOf}
 use Rattle.curve.specs.Refusals.{Accepted}
 use Rattle.curve.specs.Inner.{Factors}
 use Rattle.curve.proofs.Accepted.{accepted-facts}
-use Rattle.curve.proofs.Points.{sides, side-left, side-right, side-raised}
-use Rattle.curve.proofs.Pieces.{left-point, right-point, raised-point}
+use Rattle.curve.proofs.Points.{sides, side-left, side-right, side-elevated}
+use Rattle.curve.proofs.Pieces.{left-point, right-point, elevated-point}
 use Rattle.ledger.specs.Ledger.{parameter}
 use Rattle.ledger.proofs.Stretch.{Stretch}
 
@@ -70,20 +70,20 @@ module _ (c : Curve) (accepted : Accepted c) where
           (right-near r (den - num) num den (f .total) (f .positive) way (sides x r (point c)) q (c .degree) m start k h);
     }
 
-  -- the raised curve: the whole stretch, one step further
-  pub raised-stretch : c .degree < maxDegree → Stretch (embed (pos 0)) (embed (pos 1)) 1 c (raisedOf c)
-  unfolding raisedOf
-  raised-stretch below = record {
-    move = raised (mean (suc (c .degree)) above-zero) (c .degree);
+  -- the elevated curve: the whole stretch, one step further
+  pub elevated-stretch : c .degree < maxDegree → Stretch (embed (pos 0)) (embed (pos 1)) 1 c (elevatedOf c)
+  unfolding elevatedOf
+  elevated-stretch below = record {
+    move = elevate (mean (suc (c .degree)) above-zero) (c .degree);
     moved = λ q u.
-        ap (λ (m : ℕ). curve (raised (mean (suc (c .degree)) above-zero) (c .degree) q) m u) (add-one (c .degree))
-        ∙ raised-curve q (c .degree) u above-zero
+        ap (λ (m : ℕ). curve (elevate (mean (suc (c .degree)) above-zero) (c .degree) q) m u) (add-one (c .degree))
+        ∙ elevate-curve q (c .degree) u above-zero
         ∙ ap (curve q (c .degree)) (sym (zero-+ℚ (embed (pos 1) *ℚ u) ∙ one-*ℚ u));
     near = λ x r way m q start k h.
         rw (add-one m)
-        (subst (λ (z : ℤ). Near way (error way r * suc m) z (raised (mean (suc (c .degree)) above-zero) (c .degree) q k))
-        (sym (ap (side x r) (raised-point c k below h) ∙ side-raised x r (point c) (c .degree) k))
-        (raised-near r (c .degree) above-zero way (sides x r (point c)) q m start k (omega arith)));
+        (subst (λ (z : ℤ). Near way (error way r * suc m) z (elevate (mean (suc (c .degree)) above-zero) (c .degree) q k))
+        (sym (ap (side x r) (elevated-point c k below h) ∙ side-elevated x r (point c) (c .degree) k))
+        (elevate-near r (c .degree) above-zero way (sides x r (point c)) q m start k (omega arith)));
   }
     where
       above-zero : 0 < suc (c .degree)

@@ -12,24 +12,24 @@ use Rattle.curve.specs.Rect.{Coordinate, side}
 use Rattle.curve.specs.Refusals.{none, Accepted, AcceptedAt}
 use Rattle.curve.specs.Calls.{evaluated}
 use Rattle.ledger.specs.Ordinary.{Ordinary, InsideOf, Bounded, loadAt, exactSide}
-use Rattle.ledger.specs.Ledger.{Ledger, Call, reading, cut, raising, opened, parameter, placeOf, refused, after, refusalOf, leaves}
+use Rattle.ledger.specs.Ledger.{Ledger, Call, evaluate, subdivide, elevate, opened, parameter, placeOf, refused, after, refusalOf, leaves}
 
 -- a side is not farther out than the exact side by more than d steps
 abbrev pub Near : Rounding → ℕ → ℤ → Frac → Type 0
 Near down d s exact = exact ≤ᶠ whole s +ᶠ whole (pos d)
 Near up d s exact = whole s ≤ᶠ exact +ᶠ whole (pos d)
 
--- what a rectangle read says of the starting curve and the ordinary curve, at a place and with a sum of steps
+-- what an evaluated rectangle says of the starting curve and the ordinary curve, at a place and with a sum of steps
 pub record Sound (c : Curve) (o : Ordinary) (place : Frac) (d : ℕ) (load : Rect) : Type 0 where
   pub holds : (x : Coordinate) (r : Rounding) → Bounded r (loadAt o x place) (side x r load)
   pub near : (x : Coordinate) (r : Rounding) → Near r d (side x r load) (exactSide c x r place)
 
--- what is claimed at a call, of the curve that it gets: at a reading that is accepted, a sound rectangle
+-- what is claimed at a call, of the curve that it gets: at an evaluation that is accepted, a sound rectangle
 abbrev pub AtCall : Curve → Ordinary → Ledger → Curve → Call → Type 0
-AtCall c o l now (reading num den) =
+AtCall c o l now (evaluate num den) =
     evaluated now num den .refusal ≡ none → Sound c o (placeOf l (parameter num den)) (l .sum + l .degree) (evaluated now num den .load)
-AtCall c o l now (cut num den piece) = Unit {0}
-AtCall c o l now raising = Unit {0}
+AtCall c o l now (subdivide num den piece) = Unit {0}
+AtCall c o l now elevate = Unit {0}
 
 -- the claim along a list: each call gets the curve that the last one left, and the ledger's own refusal is the call's
 abbrev pub Along : Curve → Ordinary → Ledger → Curve → List Call → Type 0
@@ -41,8 +41,8 @@ Along c o l now (call ∷ calls) =
 abbrev pub Demand : Type 0
 Demand = (c : Curve) → Accepted c → (o : Ordinary) → InsideOf o c → (calls : List Call) → Along c o (opened c) c calls
 
--- in the safety office's words, of one reading of one accepted curve: the load of every ordinary curve inside lies in the rectangle shown, and no side is more than the degree in steps beyond the exact one
-abbrev pub OneReading : Type 0
-OneReading =
+-- in the safety office's words, of one evaluation of one accepted curve: the load of every ordinary curve inside lies in the rectangle shown, and no side is more than the degree in steps beyond the exact one
+abbrev pub OneEvaluation : Type 0
+OneEvaluation =
     (c : Curve) → Accepted c → (o : Ordinary) → InsideOf o c → (num den : ℕ) → AcceptedAt num den →
     Sound c o (parameter num den) (c .degree) (evaluated c num den .load)

@@ -9,19 +9,19 @@ use Rattle.rational.specs.Fraction.{Frac, _+ᶠ_, _*ᶠ_, whole, complement}
 use Rattle.curve.specs.declared.Curve.{Curve}
 use Rattle.curve.specs.declared.Refusal.{Refusal}
 use Rattle.curve.specs.declared.Subdivision.{Subdivision}
-use Rattle.curve.specs.Refusals.{parameterRefusal, raisingRefusal}
+use Rattle.curve.specs.Refusals.{parameterRefusal, highestRefusal}
 use Rattle.curve.specs.Calls.{evaluated, subdivided, elevated}
 
--- the piece that is kept of a cut
+-- the piece that is kept of a subdivision
 pub data Piece : Type 0 where
   left : Piece
   right : Piece
 
--- a call of the list: a reading at num/den, a cut at num/den with the piece kept, a raising; with any numbers
+-- a call of the list, with any numbers: an evaluation at num/den (the paper's reading), a subdivision at num/den with the piece that is kept (its cut), an elevation (its raising)
 pub data Call : Type 0 where
-  reading : ℕ → ℕ → Call
-  cut : ℕ → ℕ → Piece → Call
-  raising : Call
+  evaluate : ℕ → ℕ → Call
+  subdivide : ℕ → ℕ → Piece → Call
+  elevate : Call
 
 -- ---- what the calls do
 
@@ -31,15 +31,15 @@ kept right s = s .right
 
 -- the refusal that a call gives for the curve it gets
 abbrev pub refusalOf : Curve → Call → Refusal
-refusalOf c (reading num den) = evaluated c num den .refusal
-refusalOf c (cut num den piece) = subdivided c num den .refusal
-refusalOf c raising = elevated c .refusal
+refusalOf c (evaluate num den) = evaluated c num den .refusal
+refusalOf c (subdivide num den piece) = subdivided c num den .refusal
+refusalOf c elevate = elevated c .refusal
 
--- the curve that a call would answer; a reading hands on the one it got
+-- the curve that a call would answer; an evaluation hands on the one it got
 abbrev pub answerOf : Curve → Call → Curve
-answerOf c (reading num den) = c
-answerOf c (cut num den piece) = kept piece (subdivided c num den)
-answerOf c raising = elevated c .curve
+answerOf c (evaluate num den) = c
+answerOf c (subdivide num den piece) = kept piece (subdivided c num den)
+answerOf c elevate = elevated c .curve
 
 -- what a call leaves; a refused one leaves the curve it got
 unfoldable pub leaves : Curve → Call → Curve
@@ -62,9 +62,9 @@ parameter num den = record { upper = pos num; lower = suc (pred den); positive =
 
 -- the refusal, as what is fed and held tells it
 abbrev pub refused : Ledger → Call → Refusal
-refused l (reading num den) = parameterRefusal num den
-refused l (cut num den piece) = parameterRefusal num den
-refused l raising = raisingRefusal (l .degree)
+refused l (evaluate num den) = parameterRefusal num den
+refused l (subdivide num den piece) = parameterRefusal num den
+refused l elevate = highestRefusal (l .degree)
 
 -- the place of t in the stretch that is left
 unfoldable pub placeOf : Ledger → Frac → Frac
@@ -72,17 +72,17 @@ placeOf l t = l .start +ᶠ l .width *ᶠ t
 
 -- the ledger after an accepted call
 abbrev pub entered : Ledger → Call → Ledger
-entered l (reading num den) = l
-entered l (cut num den left) =
+entered l (evaluate num den) = l
+entered l (subdivide num den left) =
     record { degree = l .degree; start = l .start; width = l .width *ᶠ parameter num den; sum = l .sum + l .degree }
-entered l (cut num den right) =
+entered l (subdivide num den right) =
     record {
       degree = l .degree;
       start = placeOf l (parameter num den);
       width = l .width *ᶠ complement (parameter num den);
       sum = l .sum + l .degree;
     }
-entered l raising = record { degree = l .degree + 1; start = l .start; width = l .width; sum = l .sum + 1 }
+entered l elevate = record { degree = l .degree + 1; start = l .start; width = l .width; sum = l .sum + 1 }
 
 -- the ledger after any call; a refused one changes nothing
 unfoldable pub after : Ledger → Call → Ledger

@@ -23,15 +23,15 @@ pub extern "C" fn jusqani_panel(card: &[u8], num: u32, den: u32, out: &mut [u8])
     if unread.number != 0 {
         return unread.number;
     }
-    let reading = evaluate(read.curve, num, den);
-    let refused = reading.refusal;
+    let evaluation = evaluate(read.curve, num, den);
+    let refused = evaluation.refusal;
     if refused.number != 0 {
         return refused.number;
     }
     if out.len() < LOAD_LENGTH {
         return 12;
     }
-    let load = reading.load;
+    let load = evaluation.load;
     put_rect(out, load);
     0
 }

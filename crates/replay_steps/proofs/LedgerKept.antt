@@ -15,7 +15,7 @@ use Rattle.curve.specs.Refusals.{AcceptedAt}
 use Rattle.curve.specs.Calls.{evaluated}
 use Rattle.curve.proofs.Answers.{evaluated-accepted}
 use Rattle.card_text.specs.Card.{sides}
-use Rattle.ledger.specs.Ledger.{Ledger, Call, reading, cut, raising, left, right, opened, refused, entered, after, refusalOf, answerOf, leaves}
+use Rattle.ledger.specs.Ledger.{Ledger, Call, evaluate, subdivide, elevate, left, right, opened, refused, entered, after, refusalOf, answerOf, leaves}
 use Rattle.ledger.proofs.Demand.{Kept, opened-kept, same-refusal, after-kept}
 use Rattle.replay_steps.specs.declared.Case.{Case}
 use Rattle.replay_steps.specs.Counts.{largest, added, capped}
@@ -24,9 +24,9 @@ use Rattle.replay_steps.specs.Promises.{caseAfter, Follows, KeepsLedger}
 
 -- the sum after an accepted call
 abbrev grown : Case → Call → ℕ
-grown s (reading num den) = s .sum
-grown s (cut num den piece) = added (s .sum) (s .curve .degree)
-grown s raising = added (s .sum) 1
+grown s (evaluate num den) = s .sum
+grown s (subdivide num den piece) = added (s .sum) (s .curve .degree)
+grown s elevate = added (s .sum) 1
 
 -- the case after an accepted call, and after any
 abbrev accepted : Case → Call → Case
@@ -42,10 +42,10 @@ part f false x y = refl
 
 case-of : (s : Case) (call : Call) → caseAfter s call ≡ cond (isAccepted (s .curve) call) (accepted s call) s
 unfolding evaluation subdivision elevation
-case-of s (reading num den) = part (λ (a : Answer). a .case) (isAccepted (s .curve) (reading num den)) _ _
-case-of s (cut num den left) = part (λ (a : Answer). a .case) (isAccepted (s .curve) (cut num den left)) _ _
-case-of s (cut num den right) = part (λ (a : Answer). a .case) (isAccepted (s .curve) (cut num den right)) _ _
-case-of s raising = part (λ (a : Answer). a .case) (isAccepted (s .curve) raising) _ _
+case-of s (evaluate num den) = part (λ (a : Answer). a .case) (isAccepted (s .curve) (evaluate num den)) _ _
+case-of s (subdivide num den left) = part (λ (a : Answer). a .case) (isAccepted (s .curve) (subdivide num den left)) _ _
+case-of s (subdivide num den right) = part (λ (a : Answer). a .case) (isAccepted (s .curve) (subdivide num den right)) _ _
+case-of s elevate = part (λ (a : Answer). a .case) (isAccepted (s .curve) elevate) _ _
 
 -- the curve is what the call leaves
 curve-of : (s : Case) (call : Call) → caseAfter s call .curve ≡ leaves (s .curve) call
@@ -55,10 +55,10 @@ curve-of s call = ap (λ (x : Case). x .curve) (case-of s call) ∙ part (λ (x 
 -- the sum is the ledger's
 module _ (s : Case) (l : Ledger) (degrees : s .curve .degree ≡ l .degree) (sums : s .sum ≡ min (l .sum) largest) where
   grown-sum : (call : Call) → grown s call ≡ min (entered l call .sum) largest
-  grown-sum (reading num den) = sums
-  grown-sum (cut num den left) = omega arith
-  grown-sum (cut num den right) = omega arith
-  grown-sum raising = omega arith
+  grown-sum (evaluate num den) = sums
+  grown-sum (subdivide num den left) = omega arith
+  grown-sum (subdivide num den right) = omega arith
+  grown-sum elevate = omega arith
 
   sum-of : (call : Call) → refusalOf (s .curve) call ≡ refused l call → caseAfter s call .sum ≡ min (after l call .sum) largest
   unfolding after

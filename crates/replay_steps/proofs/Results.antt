@@ -13,7 +13,7 @@ use Rattle.curve.specs.declared.Elevation.{Elevation}
 use Rattle.curve.specs.declared.Enclosure.{Enclosure}
 use Rattle.curve.specs.Limits.{maxDegree}
 use Rattle.curve.specs.Calls.{evaluated, subdivided, elevated, bounded}
-use Rattle.curve.proofs.Ranges.{pieces-ranged, raised-ranged}
+use Rattle.curve.proofs.Ranges.{pieces-ranged, elevated-ranged}
 use Rattle.curve.proofs.Loads.{load-held}
 use Rattle.curve.proofs.BoundsHeld.{bounds-held}
 use Rattle.card_text.specs.Card.{sides}
@@ -35,8 +35,8 @@ module _ (c : Curve) (num den : ℕ) {d : Subdivision} (same : d ≡ subdivided 
   pieces-fit = let (left, right) = pieces-ranged c num den in rw same (fit-append _ _ (curve-fits _ left) (curve-fits _ right))
 
 module _ (c : Curve) {e : Elevation} (same : e ≡ elevated c) where
-  pub raised-few : e .curve .degree ≤ maxDegree
-  raised-few = rw same (raised-ranged c .few)
+  pub elevated-few : e .curve .degree ≤ maxDegree
+  elevated-few = rw same (elevated-ranged c .few)
 
-  pub raised-fits : allFit (sidesOf (e .curve)) ≡ true
-  raised-fits = rw same (curve-fits (elevated c .curve) (raised-ranged c))
+  pub elevated-fits : allFit (sidesOf (e .curve)) ≡ true
+  elevated-fits = rw same (curve-fits (elevated c .curve) (elevated-ranged c))

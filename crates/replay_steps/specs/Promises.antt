@@ -10,7 +10,7 @@ use Rattle.curve.specs.declared.Curve.{Curve}
 use Rattle.curve.specs.Refusals.{Accepted, AcceptedAt}
 use Rattle.curve.specs.Calls.{evaluated}
 use Rattle.card_text.specs.Card.{sides, longestCard}
-use Rattle.ledger.specs.Ledger.{Ledger, Call, reading, cut, raising, left, right, opened, after, leaves}
+use Rattle.ledger.specs.Ledger.{Ledger, Call, evaluate, subdivide, elevate, left, right, opened, after, leaves}
 use Rattle.replay_steps.specs.declared.Case.{Case}
 use Rattle.replay_steps.specs.declared.Session.{Session}
 use Rattle.replay_steps.specs.declared.Status.the-variants.{Done}
@@ -38,10 +38,10 @@ WindowEnough = (s : Session) (input out : List ℕ) → effect s (take window in
 
 -- the answer to one of the ledger's calls
 abbrev pub answerTo : Case → Call → Answer
-answerTo s (reading num den) = evaluation s num den
-answerTo s (cut num den left) = subdivision s num den false
-answerTo s (cut num den right) = subdivision s num den true
-answerTo s raising = elevation s
+answerTo s (evaluate num den) = evaluation s num den
+answerTo s (subdivide num den left) = subdivision s num den false
+answerTo s (subdivide num den right) = subdivision s num den true
+answerTo s elevate = elevation s
 
 -- and the case that it leaves
 abbrev pub caseAfter : Case → Call → Case

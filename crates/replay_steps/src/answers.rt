@@ -98,12 +98,12 @@ pub fn elevation(case: Case) -> Reply
 {
     let curve = case.curve;
     let answer = curve::elevate(curve);
-    let raised = answer.curve;
+    let elevated = answer.curve;
     let next = Case {
-        curve: raised,
+        curve: elevated,
         sum: added(case.sum, 1),
     };
-    let results = append_points(numbers_of(&[raised.degree as i64]), raised);
+    let results = append_points(numbers_of(&[elevated.degree as i64]), elevated);
     answering(case, answer.refusal, next, results)
 }
 

@@ -21,7 +21,7 @@ use Rattle.curve.specs.Curve.{point}
 use Rattle.curve.specs.Calls.{bounded}
 use Rattle.curve.proofs.BoundsLeast.{least-bounds}
 use Rattle.ledger.specs.Ordinary.{Ordinary, InsideOf, Bounded, loadAt}
-use Rattle.ledger.proofs.Reading.{inward, inward-none, bounded-near, near-bounded}
+use Rattle.ledger.proofs.Evaluation.{inward, inward-none, bounded-near, near-bounded}
 use Rattle.search.specs.Promises.{LoadIn}
 use Rattle.search.proofs.Dyadic.{Along}
 use Rattle.search.proofs.Laid.{Laid}

@@ -1,11 +1,11 @@
--- `elevate` meets its contract: a refusal with the zero curve, or the raised control points.
+-- `elevate` meets its contract: a refusal with the zero curve, or the elevated control points.
 -- Assumes nothing.
 use mathlib.Core.Path.{sym, _∙_}
 use Prim.Native.Nat.{_<_}
 use native.Mathlib.Omega.{arith}
 use borrow.Author.Needs.{needs}
 use Rattle.curve.specs.Limits.{maxDegree}
-use Rattle.curve.specs.Curve.{raisedOf}
+use Rattle.curve.specs.Curve.{elevatedOf}
 use Rattle.curve.specs.Refusals.{Accepted}
 use Rattle.curve.proofs.Refused.{number-refused, number-passed}
 use Rattle.curve.proofs.Accepted.{elevation-accepted, accepted-elevation, accepted-ready}
@@ -31,19 +31,19 @@ accepted c =
     elevation-accepted (c .before .before .before .args .c)
     (number-passed (c .before .before .elevation-refusal .ensures) (c .if1 .left))
 
-raised-points-requires : tie.Need-raised-points-requires
-raised-points-requires c κs = let ok = accepted c in (accepted-ready (c .before .before .before .args .c) (ok .0), ok .1)
+elevated-points-requires : tie.Need-elevated-points-requires
+elevated-points-requires c κs = let ok = accepted c in (accepted-ready (c .before .before .before .args .c) (ok .0), ok .1)
 
 add-degree : tie.Need-add-degree
 add-degree c = let ok = accepted (c .before .before) .1 in omega arith
 
 returns-2 : tie.Need-returns-2
-unfolding raisedOf
+unfolding elevatedOf
 returns-2 c =
     let t = c .before in
     let a = t .before .before .before .before .args .c in
     let ok = accepted (t .before) in
-    rw (t .raised-points .ensures, t .before .before .before .elevation-refusal .ensures ∙ accepted-elevation a (ok .0) (ok .1)) (sym (elevated-accepted a (ok .0) (ok .1)))
+    rw (t .elevated-points .ensures, t .before .before .before .elevation-refusal .ensures ∙ accepted-elevation a (ok .0) (ok .1)) (sym (elevated-accepted a (ok .0) (ok .1)))
 
 pub elevate-spec : {M : Type 1} → statement M
 elevate-spec =
@@ -52,6 +52,6 @@ elevate-spec =
     elevation-refusal-requires
     zero-curve-requires
     returns
-    raised-points-requires
+    elevated-points-requires
     add-degree
     returns-2)

@@ -2,7 +2,7 @@
 -- Assumes nothing.
 use mathlib.Core.Path.{ap₂, _∙_}
 use borrow.Author.Needs.{needs}
-use Rattle.curve.specs.Refusals.{_orElse_, raisingRefusal}
+use Rattle.curve.specs.Refusals.{_orElse_, highestRefusal}
 use Rattle.curve.specs.Calls.{elevationRefusal}
 use Rattle.curve.proofs.checks.elevation_refusal.Statement.{statement}
 use Rattle.curve.proofs.checks.elevation_refusal.Tie as tie
@@ -17,7 +17,7 @@ first-of-requires : tie.Need-first-of-requires
 first-of-requires c κs = search needs
 
 returns : tie.Need-returns
-unfolding elevationRefusal raisingRefusal
+unfolding elevationRefusal highestRefusal
 returns c = c .first-of .ensures ∙ ap₂ _orElse_ (c .before .before .before .curve-refusal .ensures) (c .before .refused-unless .ensures)
 
 pub elevation-refusal-spec : {M : Type 1} → statement M

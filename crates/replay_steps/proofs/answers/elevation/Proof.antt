@@ -13,7 +13,7 @@ use Rattle.curve.specs.Curve.{point}
 use Rattle.replay_steps.specs.Answer.{sidesOf, elevation}
 use Rattle.replay_steps.specs.Inner.{noNumbers, Grown}
 use Rattle.replay_steps.proofs.Points.{points-count}
-use Rattle.replay_steps.proofs.Results.{raised-few, raised-fits}
+use Rattle.replay_steps.proofs.Results.{elevated-few, elevated-fits}
 use Rattle.replay_steps.proofs.Gathered.{grown-then, one-number, can-answer, same-answer}
 use borrow.Author.Needs.{needs}
 use Rattle.replay_steps.proofs.answers.elevation.Statement.{statement}
@@ -41,16 +41,16 @@ called n = n .before .before .before .before .before
 abbrev curveOf : tie.After-numbers-of → Curve
 curveOf n = called n .before .before .args .case .curve
 
-abbrev raised : tie.After-numbers-of → Curve
-raised n = called n .elevate .result .curve
+abbrev elevated : tie.After-numbers-of → Curve
+elevated n = called n .elevate .result .curve
 
-few : (n : tie.After-numbers-of) → raised n .degree ≤ maxDegree
-few n = raised-few (curveOf n) (called n .elevate .ensures)
+few : (n : tie.After-numbers-of) → elevated n .degree ≤ maxDegree
+few n = elevated-few (curveOf n) (called n .elevate .ensures)
 
-degree : (n : tie.After-numbers-of) → Grown noNumbers (pos (raised n .degree) ∷ []) (n .numbers-of .result)
-degree n = one-number (raised n .degree) (omega (arith, few n)) (n .numbers-of .ensures)
+degree : (n : tie.After-numbers-of) → Grown noNumbers (pos (elevated n .degree) ∷ []) (n .numbers-of .result)
+degree n = one-number (elevated n .degree) (omega (arith, few n)) (n .numbers-of .ensures)
 
-results : (n : tie.After-append-points) → Grown noNumbers (pos (raised (n .before) .degree) ∷ sidesOf (raised (n .before))) (n .append-points .result)
+results : (n : tie.After-append-points) → Grown noNumbers (pos (elevated (n .before) .degree) ∷ sidesOf (elevated (n .before))) (n .append-points .result)
 results n = grown-then (degree (n .before)) (n .append-points .ensures)
 
 append-points-requires : tie.Need-append-points-requires
@@ -59,8 +59,8 @@ append-points-requires c κs = (few c, (degree c .size, omega (arith, few c, deg
 answering-requires : tie.Need-answering-requires
 answering-requires c κs =
     let n = c .before in
-    can-answer (results c) (omega (arith, few n, points-count (point (raised n)) (raised n .degree + 1)))
-    (fit-more _ _ (number-fits (raised n .degree) (omega (arith, few n))) (raised-fits (curveOf n) (called n .elevate .ensures)))
+    can-answer (results c) (omega (arith, few n, points-count (point (elevated n)) (elevated n .degree + 1)))
+    (fit-more _ _ (number-fits (elevated n .degree) (omega (arith, few n))) (elevated-fits (curveOf n) (called n .elevate .ensures)))
 
 returns : tie.Need-returns
 unfolding elevation

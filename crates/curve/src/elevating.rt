@@ -2,7 +2,7 @@
 ghost use mathlib.Core.Path.{_≡_};
 ghost use Prim.Native.Nat.{_+_, _<_};
 ghost use Rattle.curve.specs.Limits.{maxDegree};
-ghost use Rattle.curve.specs.Curve.{pointsOf, point, raisedPoint};
+ghost use Rattle.curve.specs.Curve.{pointsOf, point, elevatedPoint};
 ghost use Rattle.curve.specs.Inner.{Ready};
 use crate::Curve;
 use crate::PLACES;
@@ -12,10 +12,10 @@ use crate::affine::affine_rect;
 use crate::zeros::zero_rect;
 
 // The first and the last control point stay, since the absent neighbour has factor 0.
-pub fn raised_points(c: Curve) -> [Rect; PLACES]
+pub fn elevated_points(c: Curve) -> [Rect; PLACES]
     requires { ⌜ Ready c ⌝ }
     requires { ⌜ c .degree < maxDegree ⌝ }
-    ensures { λ r. ⌜ r ≡ pointsOf (c .degree + 1) (raisedPoint (c .degree) (point c)) ⌝ }
+    ensures { λ r. ⌜ r ≡ pointsOf (c .degree + 1) (elevatedPoint (c .degree) (point c)) ⌝ }
 {
     let n = c.degree as usize;
     let d = (n + 1) as u64;

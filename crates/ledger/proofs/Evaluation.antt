@@ -77,9 +77,9 @@ module _
     (c now : Curve) (start width : ℚ) (steps : ℕ) (stretch : Stretch start width steps c now) (num den : ℕ) (f : Factors (den - num) num den)
     (place : Frac) (placed : start +ℚ width *ℚ rat (parameter num den) ≡ rat place) where
   -- the exact value of the moved sequence is the starting curve's at the place
-  exact-reading : (q : ℕ → ℚ) → value (mean den (f .positive) (den - num) num) (stretch .move q) (now .degree) ≡ curve q (c .degree) (rat place)
+  exact-evaluation : (q : ℕ → ℚ) → value (mean den (f .positive) (den - num) num) (stretch .move q) (now .degree) ≡ curve q (c .degree) (rat place)
   unfolding mean
-  exact-reading q =
+  exact-evaluation q =
       curve-at (stretch .move q) (now .degree) _ _ (ratio-weights den (f .positive) (den - num) num (f .total))
       ∙ stretch .moved q _
       ∙ ap (curve q (c .degree)) (ap (λ t. start +ℚ width *ℚ t) (sym (parameter-ratio num den f)) ∙ placed)
@@ -92,7 +92,7 @@ module _
   unfolding loadOf value
   read-near x r way q near =
       subst₂ (λ (a : ℤ) (y : ℚ). Near way (error way r * (steps + now .degree)) a y)
-      (sym (side-value x r (point now) (den - num) num den (now .degree))) (exact-reading q)
+      (sym (side-value x r (point now) (den - num) num den (now .degree))) (exact-evaluation q)
       (table-near r (den - num) num den (f .total) (f .positive) way (sides x r (point now)) (stretch .move q) (now .degree) steps
       (λ k h. rw zero-add at (stretch .near x r way 0 q (λ i g. rw mul-zero (near i g)) k h)) (now .degree) 0 (omega arith))
 

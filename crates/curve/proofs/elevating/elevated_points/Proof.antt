@@ -1,4 +1,4 @@
--- `raised_points` meets its contract. The invariant: the places up to k are filled. The measure is what is left of them.
+-- `elevated_points` meets its contract. The invariant: the places up to k are filled. The measure is what is left of them.
 -- Assumes nothing.
 use mathlib.Core.Path.{_≡_, refl, ap, ap₂, _∙_}
 use mathlib.Core.List.{List}
@@ -8,14 +8,14 @@ use borrow.Author.Needs.{needs}
 use lib.ListN.{set}
 use Rattle.curve.specs.Limits.{maxDegree}
 use Rattle.curve.specs.declared.Rect.{Rect}
-use Rattle.curve.specs.Curve.{point, pointsOf, raisedPoint}
+use Rattle.curve.specs.Curve.{point, pointsOf, elevatedPoint}
 use Rattle.curve.proofs.Places.{points-first, points-next}
-use Rattle.curve.proofs.RaisedPoints.{raised-first, raised-last, raised-next}
-use Rattle.curve.proofs.raising.raised_points.Statement.{statement}
-use Rattle.curve.proofs.raising.raised_points.Tie as tie
+use Rattle.curve.proofs.ElevatedPoints.{elevated-first, elevated-last, elevated-next}
+use Rattle.curve.proofs.elevating.elevated_points.Statement.{statement}
+use Rattle.curve.proofs.elevating.elevated_points.Tie as tie
 
 abbrev Inv-loop : tie.InvT-loop
-Inv-loop c n d inverse points₀ k₀ points k = (n < maxDegree) × (k ≤ n) × (points ≡ pointsOf k (raisedPoint n (point c)))
+Inv-loop c n d inverse points₀ k₀ points k = (n < maxDegree) × (k ≤ n) × (points ≡ pointsOf k (elevatedPoint n (point c)))
 
 abbrev μ-loop : tie.MeasureT-loop
 μ-loop c n d inverse points₀ k₀ points k = n - k
@@ -43,7 +43,7 @@ loop-holds c =
     let a = c .before .before .args .t1 in (
       c .before .before .pre .1,
       omega arith,
-      rw (c .before .zero-rect .ensures, raised-first (a .degree) (point a)) (points-first (raisedPoint (a .degree) (point a))),
+      rw (c .before .zero-rect .ensures, elevated-first (a .degree) (point a)) (points-first (elevatedPoint (a .degree) (point a))),
     )
 
 mul-p : tie.Need-mul-p Inv-loop μ-loop
@@ -88,10 +88,10 @@ loop-again : tie.Need-loop-again Inv-loop μ-loop
 loop-again c =
     let l = c .before .before .before .before .loop in
     let a = c .before .before .before .before .before .before .before .args .t1 in
-    let new = c .affine-rect .ensures ∙ raised-next (a .degree) (point a) (l .k) in (
+    let new = c .affine-rect .ensures ∙ elevated-next (a .degree) (point a) (l .k) in (
       l .inv .0,
       omega arith,
-      ap₂ (λ (x : List Rect) (v : Rect). set x (l .k + 1) v) (l .inv .2) new ∙ points-next (l .k) (raisedPoint (a .degree) (point a)) (omega arith),
+      ap₂ (λ (x : List Rect) (v : Rect). set x (l .k + 1) v) (l .inv .2) new ∙ points-next (l .k) (elevatedPoint (a .degree) (point a)) (omega arith),
     )
 
 mul-points-2 : tie.Need-mul-points-2 Inv-loop μ-loop
@@ -115,11 +115,11 @@ returns c =
     let a = c .before .before .before .before .before .args .t1 in
     let n = a .degree in
     let done : l .k ≡ n = omega arith in
-    ap₂ (λ (x : List Rect) (v : Rect). set x (n + 1) v) (l .inv .2 ∙ ap (λ (k : ℕ). pointsOf k (raisedPoint n (point a))) done) (raised-last n (point a))
-    ∙ points-next n (raisedPoint n (point a)) (omega arith)
+    ap₂ (λ (x : List Rect) (v : Rect). set x (n + 1) v) (l .inv .2 ∙ ap (λ (k : ℕ). pointsOf k (elevatedPoint n (point a))) done) (elevated-last n (point a))
+    ∙ points-next n (elevatedPoint n (point a)) (omega arith)
 
-pub raised-points-spec : {M : Type 1} → statement M
-raised-points-spec =
+pub elevated-points-spec : {M : Type 1} → statement M
+elevated-points-spec =
     tie.close
     (tie.spec
     Inv-loop
