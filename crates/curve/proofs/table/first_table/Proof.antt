@@ -1,4 +1,4 @@
--- `first_table` meets its contract. The invariant: the right side's places up to k are filled. The measure is what is left of them.
+-- `first_table` meets its contract. The invariant: the right side's places up to k are filled. The measure is what is left of the record's places.
 -- Assumes nothing.
 use mathlib.Core.Path.{_≡_, ap, _∙_}
 use mathlib.Core.List.{List}
@@ -17,7 +17,7 @@ abbrev Inv-loop : tie.InvT-loop
 Inv-loop c n table₀ k₀ table k = (n ≤ maxDegree) × (k ≤ n) × (table .left ≡ pointsOf 0 (point c)) × (table .right ≡ pointsOf k (point c))
 
 abbrev μ-loop : tie.MeasureT-loop
-μ-loop c n table₀ k₀ table k = n - k
+μ-loop c n table₀ k₀ table k = maxDegree - k
 
 cast-n : tie.Need-cast-n Inv-loop μ-loop
 cast-n c = omega arith

@@ -65,7 +65,10 @@ first c k e =
 
 -- in a turn the stage has a map left to make
 inside : (c : tie.In-loop Inv-loop μ-loop) → c .before .loop .k < c .before .before .before .before .args .c .degree - c .before .loop .j
-inside c = c .before .loop .inv .3 (c .loop-test .taken)
+inside c =
+    let some = c .before .before .before .before .pre .0 .some in
+    let test = c .loop-test .taken in
+    c .before .loop .inv .3 (omega arith)
 
 cast-n : tie.Need-cast-n Inv-loop μ-loop
 cast-n c = omega (arith, c .before .pre .0 .few)
@@ -136,7 +139,14 @@ affine-rect-requires c κs =
     let i = c .before .before in
     let k = i .before .loop .k in
     let room = inside i in
-    (waiting i k (omega arith) (omega arith), (waiting i (k + 1) (omega arith) (omega arith), (i .before .before .before .before .pre .1, refl)))
+    let f = i .before .before .before .before .pre .1 in
+    let total = f .total in (
+      waiting i k (omega arith) (omega arith),
+      (
+        waiting i (k + 1) (omega arith) (omega arith),
+        (record { total = omega arith; positive = f .positive; small = f .small }, refl),
+      ),
+    )
 
 mul-t17 : tie.Need-mul-t17 Inv-loop μ-loop
 mul-t17 c = let room = inside (c .before .before .before) in omega arith
