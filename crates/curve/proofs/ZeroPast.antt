@@ -1,29 +1,40 @@
--- Every place past the degree of a piece is zero, also where the cut is refused.
+-- Every place past the degree of a curve that is answered is zero, also where the call is refused.
 -- Assumes nothing.
-use mathlib.Core.Path.{_≡_}
 use mathlib.Core.Bool.{Bool, true, false, cond}
-use native.Mathlib.Omega.{arith}
+use Prim.Native.Nat.{ℕ, _+_}
 use lib.Dec.{eqb}
 use Rattle.bernstein.specs.DeCasteljau.{left, right}
-use Rattle.curve.specs.declared.Refusal.{Refusal}
+use Rattle.curve.specs.declared.Curve.{Curve}
+use Rattle.curve.specs.declared.Elevation.{Elevation}
 use Rattle.curve.specs.declared.Subdivision.{Subdivision}
 use Rattle.curve.specs.Rect.{zeroRect}
-use Rattle.curve.specs.Curve.{point, mapAt, leftOf, rightOf, zeroCurve}
-use Rattle.curve.specs.Calls.{callRefusal, subdivided}
-use Rattle.curve.specs.Promises.{ZeroPast}
-use Rattle.curve.proofs.Answers.{subdivision}
+use Rattle.curve.specs.Curve.{point, mapAt, leftOf, rightOf, elevatedPoint, elevatedOf, zeroCurve}
+use Rattle.curve.specs.Calls.{callRefusal, elevationRefusal, subdivided, elevated}
+use Rattle.curve.specs.Promises.{PastZero, ZeroPast}
+use Rattle.curve.proofs.Answers.{subdivision, elevation}
 use Rattle.curve.proofs.Points.{point-past}
 
-pub zero-past : ZeroPast
+pieces-past : (c : Curve) (num den : ℕ) → PastZero (subdivided c num den .left) × PastZero (subdivided c num den .right)
 unfolding subdivided leftOf rightOf
-zero-past c num den k h = go (eqb (refused .number) 0)
+pieces-past c num den = go (eqb (callRefusal c num den .number) 0)
   where
-    refused : Refusal
-    refused = callRefusal c num den
-
     answer : Bool → Subdivision
-    answer b = cond b (subdivision (leftOf c num den) (rightOf c num den) refused) (subdivision zeroCurve zeroCurve refused)
+    answer b = cond b (subdivision (leftOf c num den) (rightOf c num den) (callRefusal c num den)) (subdivision zeroCurve zeroCurve (callRefusal c num den))
 
-    go : (b : Bool) → (point (answer b .left) k ≡ zeroRect) × (point (answer b .right) k ≡ zeroRect)
-    go true = (point-past (c .degree) (left (mapAt num den) (point c)) k h, point-past (c .degree) (right (mapAt num den) (point c) (c .degree)) k h)
-    go false = let past = point-past 0 (λ j. zeroRect) k (omega arith) in (past, past)
+    go : (b : Bool) → PastZero (answer b .left) × PastZero (answer b .right)
+    go true = (point-past (c .degree) (left (mapAt num den) (point c)), point-past (c .degree) (right (mapAt num den) (point c) (c .degree)))
+    go false = (point-past 0 (λ j. zeroRect), point-past 0 (λ j. zeroRect))
+
+elevated-past : (c : Curve) → PastZero (elevated c .curve)
+unfolding elevated elevatedOf
+elevated-past c = go (eqb (elevationRefusal c .number) 0)
+  where
+    answer : Bool → Elevation
+    answer b = cond b (elevation (elevatedOf c) (elevationRefusal c)) (elevation zeroCurve (elevationRefusal c))
+
+    go : (b : Bool) → PastZero (answer b .curve)
+    go true = point-past (c .degree + 1) (elevatedPoint (c .degree) (point c))
+    go false = point-past 0 (λ j. zeroRect)
+
+pub zero-past : ZeroPast
+zero-past c = (pieces-past c, elevated-past c)

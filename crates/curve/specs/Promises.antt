@@ -69,11 +69,16 @@ abbrev pub LoadInBounds : Type 0
 LoadInBounds =
     (c : Curve) (num den : ℕ) → Accepted c → AcceptedAt num den → Inside (evaluated c num den .load) (bounded c .rect)
 
--- a curve that is answered has zero in every place past its degree
+-- every place past a curve's degree is zero
+abbrev pub PastZero : Curve → Type 0
+PastZero c = (k : ℕ) → c .degree < k → point c k ≡ zeroRect
+
+-- so it is in every curve that is answered
 abbrev pub ZeroPast : Type 0
 ZeroPast =
-    (c : Curve) (num den k : ℕ) → c .degree < k →
-    (point (subdivided c num den .left) k ≡ zeroRect) × (point (subdivided c num den .right) k ≡ zeroRect)
+    (c : Curve) →
+    ((num den : ℕ) → PastZero (subdivided c num den .left) × PastZero (subdivided c num den .right))
+    × PastZero (elevated c .curve)
 
 abbrev pub negative : ℤ → Bool
 negative (pos n) = false
