@@ -1,4 +1,38 @@
-/* The panel call: the load of a curve card at a parameter. Its contract is proved in crates/panel (specs/Panel.antt). */
+/*
+ * Interval Bézier curves of an antenna's load, for firmware in C. Every call is proved: the contracts are in
+ * crates/foreign (specs/Calls.antt) and crates/panel (specs/Panel.antt).
+ *
+ * A side is a whole number of steps of 1/1,024 ohm. A rectangle is four sides: resistance low, resistance high,
+ * reactance low, reactance high.
+ *
+ * A curve that a call is given is its degree n and its sides, four for each of the rectangles 0 to n. Sides that the
+ * buffer does not have count as zero, and sides past rectangle n are not read. A curve that a call gives is
+ * JUSQANI_CURVE_LENGTH(n) numbers: its degree, then its sides; so `curve[0]`, `curve + 1` and
+ * JUSQANI_CURVE_LENGTH(n) - 1 hand it to the next call.
+ *
+ * A call that answers a uint64_t answers 0 on success. Any other answer is a refusal: JUSQANI_NUMBER(answer) says what
+ * was refused and JUSQANI_PLACE(answer) where. These are all the refusals; the place is 0 unless said:
+ *
+ *    1  the degree is not 1 to 8
+ *    2  a side is out of range (16,384 ohms either way); place: the first such rectangle
+ *    3  a low side is above its high side; place: the first such rectangle
+ *    4  den is not 1 to 65,536
+ *    5  num is above den
+ *    6  the degree is 8 and cannot be raised
+ *    7  a box side is out of range, or its low side is above its high side
+ *    8  depth is above 12
+ *    9  budget is not 1 to 8,191
+ *   10  the card's length is not the length for its degree; place: its length, 2^32 - 1 for a longer one
+ *   11  a column is malformed, or a line does not end with byte 10; place: the offset of the column or the line end
+ *   12  a buffer for the result is too short; place: the length that is needed
+ *
+ * They are tried in the order 1, 2, 3, then the call's own as its paragraph lists them, and 12 last. A refused call
+ * changes no buffer. A call that is not refused stores its result in front of each buffer that it is lent for it, and
+ * what lies past the result keeps its contents.
+ *
+ * The caller provides valid buffers of the stated lengths; one that a call writes overlaps no other. A pointer must
+ * not be null, also where its length is 0. The calls keep no pointer and always return.
+ */
 #ifndef JUSQANI_H
 #define JUSQANI_H
 
@@ -9,24 +43,79 @@
 extern "C" {
 #endif
 
+/* A refusal's number and its place, off an answer. */
+#define JUSQANI_NUMBER(answer) ((uint32_t)((answer) & 0xffffffffu))
+#define JUSQANI_PLACE(answer) ((uint32_t)((answer) >> 32))
+
+/* The numbers of a rectangle, of a curve of degree n, and of a verdict; the bytes of the card of a curve of degree n. */
+#define JUSQANI_RECT_LENGTH 4
+#define JUSQANI_CURVE_LENGTH(n) (1 + 4 * ((n) + 1))
+#define JUSQANI_VERDICT_LENGTH 4
+#define JUSQANI_CARD_LENGTH(n) (11 + 41 * ((n) + 1))
+
+/*
+ * Evaluates the curve at num/den. The load's four sides are stored in load, and the same in ohms, with nothing lost,
+ * in ohms. Refusals 1, 2, 3, 4, 5 and 12: either buffer is shorter than 4. A refusal changes neither buffer, and both
+ * keep what lies past the first four numbers.
+ */
+uint64_t jusqani_evaluate(uint32_t degree, const int32_t *sides, size_t sides_length, uint32_t num, uint32_t den,
+                          int32_t *load, size_t load_length, float *ohms, size_t ohms_length);
+
+/*
+ * Subdivides the curve at num/den. The piece up to num/den is stored in left and the piece from there on in right,
+ * each a curve of the same degree. Refusals 1, 2, 3, 4, 5 and 12: either buffer is shorter than
+ * JUSQANI_CURVE_LENGTH(degree). A refusal changes neither buffer, and both keep what lies past the piece.
+ */
+uint64_t jusqani_subdivide(uint32_t degree, const int32_t *sides, size_t sides_length, uint32_t num, uint32_t den,
+                           int32_t *left, size_t left_length, int32_t *right, size_t right_length);
+
+/*
+ * Raises the degree by one: the curve of degree + 1 is stored in raised. Refusals 1, 2, 3, 6 and 12: raised is shorter
+ * than JUSQANI_CURVE_LENGTH(degree + 1). A refusal changes nothing, and raised keeps what lies past the curve.
+ */
+uint64_t jusqani_elevate(uint32_t degree, const int32_t *sides, size_t sides_length, int32_t *raised,
+                         size_t raised_length);
+
+/*
+ * Bounds the curve: the four sides of the least rectangle that holds all of its rectangles are stored in rect.
+ * Refusals 1, 2, 3 and 12: rect is shorter than 4. A refusal changes nothing, and rect keeps what lies past the
+ * first four numbers.
+ */
+uint64_t jusqani_bounds(uint32_t degree, const int32_t *sides, size_t sides_length, int32_t *rect, size_t rect_length);
+
+/*
+ * Decides whether the curve stays in a box, by cutting it into pieces none deeper than depth and looking at no more
+ * than budget of them. The box is four sides; those that the buffer does not have count as zero. Four numbers are
+ * stored in verdict: which verdict (1 Inside, 2 Outside, 3 Spent, 4 Undecided), the depth and the index of the piece
+ * that Outside and Undecided name (0 and 0 for the others), and the number of pieces looked at. Refusals 1, 2, 3, 7,
+ * 8, 9 and 12: verdict is shorter than 4. A refusal changes nothing, and verdict keeps what lies past the four.
+ */
+uint64_t jusqani_search(uint32_t degree, const int32_t *sides, size_t sides_length, const int32_t *limits,
+                        size_t limits_length, uint32_t depth, uint32_t budget, uint32_t *verdict,
+                        size_t verdict_length);
+
+/*
+ * Reads the card in card[0 .. card_length). Its curve is stored in curve. Refusals 10 (shorter than a first line), 11
+ * in the first line, 1, 10, 11 in the other lines, 2, 3 and 12: curve is shorter than JUSQANI_CURVE_LENGTH of the
+ * card's degree. A refusal changes nothing, and curve keeps what lies past the curve.
+ */
+uint64_t jusqani_read_card(const uint8_t *card, size_t card_length, int32_t *curve, size_t curve_length);
+
+/*
+ * Writes the curve as a card: JUSQANI_CARD_LENGTH(degree) bytes are stored in card. Refusals 1, 2, 3 and 12: card is
+ * shorter than that. A refusal changes nothing, and card keeps its later bytes.
+ */
+uint64_t jusqani_write_card(uint32_t degree, const int32_t *sides, size_t sides_length, uint8_t *card,
+                            size_t card_length);
+
 /*
  * Reads the card in card[0 .. card_length) and evaluates its curve at num/den.
  *
  * Answers 0 on success. The first 16 bytes of out are then the load's sides in steps of 1/1,024 ohm, in the order
  * resistance low, resistance high, reactance low, reactance high, each a 32-bit two's complement number, least byte
- * first. Later bytes of out keep their contents. Any other answer is a refusal, and no byte of out is changed:
- *
- *    1  the degree is not 1 to 8
- *    2  a side is out of range (16,384 ohms either way)
- *    3  a low side is above its high side
- *    4  den is not 1 to 65,536
- *    5  num is above den
- *   10  the card's length is not the length for its degree
- *   11  a column is malformed, or a line does not end with byte 10
- *   12  out is shorter than 16 bytes
- *
- * The caller provides two valid buffers of the stated lengths that do not overlap. A pointer must not be null, also
- * where its length is 0. The call keeps no pointer and always returns.
+ * first. Later bytes of out keep their contents. Any other answer is a refusal's number, without its place, and no
+ * byte of out is changed: 10, 11, 1, 2 and 3 as for jusqani_read_card, then 4 and 5, then 12 where out is shorter than
+ * 16 bytes.
  */
 uint32_t jusqani_panel(const uint8_t *card, size_t card_length, uint32_t num, uint32_t den, uint8_t *out,
                        size_t out_length);

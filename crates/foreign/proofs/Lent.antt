@@ -1,0 +1,55 @@
+-- What a call leaves in a lent list: all of it where the call is refused, and otherwise the result stored in front.
+-- Assumes nothing.
+use mathlib.Core.Path.{_≡_, sym, ap, ap₂, _∙_}
+use mathlib.Core.Bool.{Bool, cond}
+use mathlib.Core.List.{List, _∷_, _++_}
+use Prim.Native.Nat.{ℕ, suc, _+_, _≤_}
+use native.Mathlib.Nat.{zero-add}
+use native.Mathlib.Omega.{arith}
+use lib.Dec.{eqb}
+use lib.ListN.{length, drop, set, length-append, length-drop}
+use lib.Seq.{sets, sets-eq, take-at, drop-at, drop-drop, drop-set-lt}
+use borrow.Author.Tests.{eq-eqb, ne-eqb}
+use Rattle.curve.specs.declared.Refusal.{Refusal}
+use Rattle.foreign.specs.Answer.{after}
+
+module _ {A : Type 0} where
+  -- numbers in front of a list
+  abbrev pub front : List A → List A → List A
+  front xs out = xs ++ drop (length xs) out
+
+  pub front-length : (xs out : List A) → length xs ≤ length out → length (front xs out) ≡ length out
+  front-length xs out room = simp (length-append, length-drop) (omega arith)
+
+  -- stored one after the other from the first place on
+  pub front-first : (xs out : List A) → length xs ≤ length out → sets out 0 xs ≡ front xs out
+  front-first xs out room = sets-eq xs out 0 (omega arith) ∙ rw zero-add
+
+  -- and further ones behind them
+  pub front-next : (xs ys out : List A) (m : ℕ) → length xs ≡ m → m + length ys ≤ length out → sets (front xs out) m ys ≡ front (xs ++ ys) out
+  front-next xs ys out m long room =
+      let rest = drop (length xs) out in
+      let same : length (front xs out) ≡ length out = front-length xs out (omega arith) in
+      let past : drop (m + length ys) (xs ++ rest) ≡ drop (length (xs ++ ys)) out =
+      sym (drop-drop (length ys) m (xs ++ rest))
+      ∙ ap (λ (l : List A). drop (length ys) l) (drop-at xs rest m long)
+      ∙ drop-drop (length ys) (length xs) out
+      ∙ ap (λ (n : ℕ). drop n out) (sym (length-append xs ys)) in
+      sets-eq ys (front xs out) m (omega arith)
+      ∙ ap₂ (λ (a b : List A). a ++ ys ++ b) (take-at xs rest m long) past
+
+  -- a number that is stored over does not show
+  pub front-over : (x y : A) (xs out : List A) → front (x ∷ xs) (set out 0 y) ≡ front (x ∷ xs) out
+  front-over x y xs out = ap (λ (l : List A). x ∷ (xs ++ l)) (drop-set-lt (suc (length xs)) out 0 y (omega arith))
+
+  module _ (r : Refusal) (result out : List A) where
+    abbrev leftIf : Bool → List A
+    leftIf b = cond b (front result out) out
+
+    pub all-kept : (r .number ≡ 0 → ⊥) → out ≡ after r result out
+    unfolding after
+    all-kept some = ap leftIf (sym (ne-eqb (r .number) 0 some))
+
+    pub in-front : r .number ≡ 0 → front result out ≡ after r result out
+    unfolding after
+    in-front none = ap leftIf (sym (eq-eqb (r .number) 0 none))

@@ -1,0 +1,5 @@
+-- Laws of the definitions in specs/.
+pub mod Answer
+pub mod Lent
+pub mod Numbers
+pub mod Promises

@@ -1,0 +1,83 @@
+-- Curves as numbers: how many they are, and the numbers of one rectangle more.
+-- Assumes nothing.
+use mathlib.Core.Path.{_≡_, refl, sym, ap, _∙_}
+use mathlib.Core.Bool.{Bool, true, false, cond}
+use mathlib.Core.List.{List, _∷_, _++_}
+use Prim.Native.Nat.{ℕ, zero, suc, _+_, _*_, _≤_, _<_, _^_}
+use native.Mathlib.Decide.{decLe}
+use native.Mathlib.Numerals.{add-one}
+use native.Mathlib.Omega.{arith}
+use lib.Dec.{eqb}
+use lib.IntN.{pos}
+use lib.ListN.{length, length-append}
+use borrow.Author.Tests.{le-leb, lt-leb}
+use mir.Syntax.{w32}
+use mir.Val.{toZ}
+use mir.ValLaws.{toZ-ofZ}
+use Rattle.curve.specs.declared.Rect.{Rect}
+use Rattle.curve.specs.declared.Curve.{Curve}
+use Rattle.curve.specs.declared.Refusal.{Refusal}
+use Rattle.curve.specs.Limits.{maxDegree}
+use Rattle.curve.specs.Curve.{point, pointsOf, zeroCurve}
+use Rattle.curve.proofs.Places.{is-points, points-length, points-at, points-past}
+use Rattle.card_text.specs.declared.CardRead.{CardRead}
+use Rattle.card_text.specs.Card.{sides}
+use Rattle.card_text.specs.Reading.{numberAt, decoded, cardRefusal, readCard}
+use Rattle.card_text.proofs.Degree.{degree-at-most}
+use Rattle.foreign.specs.Numbers.{sidesTo, curveNumbers}
+use Rattle.foreign.specs.Answer.{shorter}
+use Rattle.foreign.specs.Inner.{lastPlace}
+
+module _ (P : ℕ → Rect) where
+  pub sides-length : (m : ℕ) → length (sidesTo m P) ≡ 4 * m
+  unfolding sidesTo
+  sides-length zero = refl
+  sides-length (suc m) = length-append (sidesTo m P) (sides (P m)) ∙ rw (sides-length m) (omega arith)
+
+  -- one rectangle more
+  pub sides-next : (m : ℕ) → sidesTo m P ++ sides (P m) ≡ sidesTo (m + 1) P
+  unfolding sidesTo
+  sides-next m = rw (add-one m)
+
+pub curve-length : (c : Curve) → length (curveNumbers c) ≡ 1 + 4 * (c .degree + 1)
+unfolding curveNumbers
+curve-length c = ap suc (sides-length (point c) (c .degree + 1)) ∙ omega arith
+
+-- the refusal of a list that is shorter than a curve, by the length that its degree gives
+pub curve-room : (c : Curve) (size : ℕ) {n : ℕ} {room : Refusal} → n ≡ 1 + 4 * (c .degree + 1) → room ≡ shorter n size → room ≡ shorter (length (curveNumbers c)) size
+curve-room c size long tested = tested ∙ ap (λ (m : ℕ). shorter m size) (long ∙ sym (curve-length c))
+
+-- the curve that a card gives, the zero curve where it is refused, has a degree of at most the highest
+pub card-few : (bytes : List ℕ) → readCard bytes .curve .degree ≤ maxDegree
+unfolding readCard decoded
+card-few bytes = go (eqb (cardRefusal bytes .number) 0)
+  where
+    read : Curve → CardRead
+    read x = record { refusal = cardRefusal bytes; curve = x }
+
+    go : (b : Bool) → cond b (read (decoded bytes)) (read zeroCurve) .curve .degree ≤ maxDegree
+    go true = degree-at-most (numberAt bytes 0)
+    go false = omega arith
+
+-- a small number as an i32
+pub as-signed : (n : ℕ) → n < 2 ^ 31 → toZ w32 n ≡ pos n
+as-signed n h = toZ-ofZ w32 (pos n) (record { sfits = omega arith })
+
+-- the last place that a curve fills is one of its record
+pub last-small : (n : ℕ) → lastPlace n ≤ maxDegree
+last-small n = go (decLe n maxDegree)
+  where
+    go : Dec (n ≤ maxDegree) → lastPlace n ≤ maxDegree
+    go (yes few) = rw (le-leb n maxDegree few) few
+    go (no many) = rw (lt-leb n maxDegree (omega arith)) (omega arith)
+
+-- the places up to the last one that a curve fills are all of them
+pub places-filled : (n : ℕ) (f : ℕ → Rect) → pointsOf (lastPlace n) f ≡ pointsOf n f
+places-filled n f = go (decLe n maxDegree)
+  where
+    go : Dec (n ≤ maxDegree) → pointsOf (lastPlace n) f ≡ pointsOf n f
+    go (yes few) = rw (le-leb n maxDegree few)
+    go (no many) =
+        let over : maxDegree < n = omega arith in
+        rw (lt-leb n maxDegree over)
+        (is-points n f (pointsOf maxDegree f) (points-length maxDegree f) (λ k h low. points-at maxDegree f k h (omega arith)) (λ k h past. absurd (omega arith)))

@@ -1,0 +1,27 @@
+-- `answer_of` meets its contract: number and place fit their halves.
+-- Assumes nothing.
+use native.Mathlib.Omega.{arith}
+use borrow.Author.Needs.{needs}
+use Rattle.foreign.specs.Answer.{answerOf}
+use Rattle.foreign.proofs.Answer.{place-small}
+use Rattle.foreign.proofs.answers.answer_of.Statement.{statement}
+use Rattle.foreign.proofs.answers.answer_of.Tie as tie
+
+cast-result : tie.Need-cast-result
+cast-result c = search needs
+
+place-of-requires : tie.Need-place-of-requires
+place-of-requires c κs = search needs
+
+mul-result : tie.Need-mul-result
+mul-result c = let small = place-small (c .before .before .args .refusal .place) in let e = c .place-of .ensures in omega arith
+
+add-result : tie.Need-add-result
+add-result c = let small = place-small (c .before .before .args .refusal .place) in let e = c .place-of .ensures in omega arith
+
+returns : tie.Need-returns
+unfolding answerOf
+returns c = rw (c .place-of .ensures)
+
+pub answer-of-spec : {M : Type 1} → statement M
+answer-of-spec = tie.close (tie.spec cast-result place-of-requires mul-result add-result returns)

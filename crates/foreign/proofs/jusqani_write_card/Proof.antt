@@ -1,0 +1,38 @@
+-- `jusqani_write_card` meets its contract: the writer's refusal, and the bytes that it leaves.
+-- Assumes nothing.
+use mathlib.Core.Path.{ap, _∙_}
+use borrow.Author.Needs.{needs}
+use Rattle.curve.specs.declared.Curve.{Curve}
+use Rattle.card_text.specs.declared.CardWritten.{CardWritten}
+use Rattle.card_text.specs.Writing.{writeCard, bytesAfter}
+use Rattle.foreign.specs.Answer.{answerOf}
+use Rattle.foreign.proofs.jusqani_write_card.Statement.{statement}
+use Rattle.foreign.proofs.jusqani_write_card.Tie as tie
+
+curve-from-requires : tie.Need-curve-from-requires
+curve-from-requires c κs = search needs
+
+write-card-requires : tie.Need-write-card-requires
+write-card-requires c κs = search needs
+
+answer-of-requires : tie.Need-answer-of-requires
+answer-of-requires c κs = search needs
+
+same-length : tie.Need-same-length
+same-length c = search needs
+
+returns : tie.Need-returns
+returns c =
+    let w = c .before .before .before in
+    let f = w .before .before in
+    let out = f .before .before .args .card .now in
+    let given = f .curve-from .ensures in (
+      c .answer-of .ensures
+          ∙ ap (λ (x : CardWritten). answerOf (x .refusal)) (w .write-card .ensures .0 ∙ ap (λ (x : Curve). writeCard x out) given),
+      w .write-card .ensures .1 ∙ ap (λ (x : Curve). bytesAfter x out) given,
+    )
+
+pub jusqani-write-card-spec : {M : Type 1} → statement M
+jusqani-write-card-spec =
+    tie.close
+    (tie.spec curve-from-requires write-card-requires answer-of-requires same-length returns)

@@ -1,0 +1,29 @@
+-- `put_curve` meets its contract: the curve is stored in front, and nothing where the call is refused.
+-- Assumes nothing.
+use mathlib.Core.Path.{_∙_}
+use borrow.Author.Needs.{needs}
+use Rattle.foreign.specs.Numbers.{curveNumbers}
+use Rattle.foreign.proofs.Lent.{all-kept, in-front}
+use Rattle.foreign.proofs.results.put_curve.Statement.{statement}
+use Rattle.foreign.proofs.results.put_curve.Tie as tie
+
+returns : tie.Need-returns
+returns c = let a = c .before .before .args in all-kept (a .refusal) (curveNumbers (a .c)) (a .out .now) (c .if1 .taken)
+
+store-curve-requires : tie.Need-store-curve-requires
+store-curve-requires c κs =
+    let e = c .before in
+    let p = e .before .before .pre in
+    (p .0, p .1 (e .if1 .left))
+
+same-length : tie.Need-same-length
+same-length c = search needs
+
+returns-2 : tie.Need-returns-2
+returns-2 c =
+    let e = c .before .before .before in
+    let a = e .before .before .args in
+    c .before .store-curve .ensures ∙ in-front (a .refusal) (curveNumbers (a .c)) (a .out .now) (e .if1 .left)
+
+pub put-curve-spec : {M : Type 1} → statement M
+put-curve-spec = tie.close (tie.spec returns store-curve-requires same-length returns-2)

@@ -1,0 +1,29 @@
+-- `put_rect` meets its contract: the sides are stored in front, and nothing where the call is refused.
+-- Assumes nothing.
+use mathlib.Core.Path.{_∙_}
+use borrow.Author.Needs.{needs}
+use Rattle.card_text.specs.Card.{sides}
+use Rattle.foreign.proofs.Lent.{front-first, all-kept, in-front}
+use Rattle.foreign.proofs.results.put_rect.Statement.{statement}
+use Rattle.foreign.proofs.results.put_rect.Tie as tie
+
+returns : tie.Need-returns
+returns c = let a = c .before .before .args in all-kept (a .refusal) (sides (a .p)) (a .out .now) (c .if1 .taken)
+
+store-rect-requires : tie.Need-store-rect-requires
+store-rect-requires c κs = c .before .before .before .pre (c .before .if1 .left)
+
+same-length : tie.Need-same-length
+same-length c = search needs
+
+returns-2 : tie.Need-returns-2
+returns-2 c =
+    let e = c .before .before .before in
+    let s = e .before .before in
+    let a = s .args in
+    c .before .store-rect .ensures
+    ∙ front-first (sides (a .p)) (a .out .now) (s .pre (e .if1 .left))
+    ∙ in-front (a .refusal) (sides (a .p)) (a .out .now) (e .if1 .left)
+
+pub put-rect-spec : {M : Type 1} → statement M
+put-rect-spec = tie.close (tie.spec returns store-rect-requires same-length returns-2)

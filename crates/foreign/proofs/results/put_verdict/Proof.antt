@@ -1,0 +1,72 @@
+-- `put_verdict` meets its contract: four stores in front, and none where the call is refused.
+-- Assumes nothing.
+use mathlib.Core.Path.{_≡_, ap, _∙_}
+use mathlib.Core.List.{List}
+use Prim.Native.Nat.{ℕ}
+use native.Mathlib.Omega.{arith}
+use borrow.Author.Needs.{needs}
+use lib.ListN.{length-set}
+use lib.Seq.{sets}
+use Rattle.foreign.specs.Numbers.{verdictNumbers}
+use Rattle.foreign.proofs.Lent.{front-first, all-kept, in-front}
+use Rattle.foreign.proofs.results.put_verdict.Statement.{statement}
+use Rattle.foreign.proofs.results.put_verdict.Tie as tie
+
+returns : tie.Need-returns
+returns c = let a = c .before .before .before .args in all-kept (a .refusal) (verdictNumbers (a .v)) (a .out .now) (c .if1 .taken)
+
+verdict-numbers-requires : tie.Need-verdict-numbers-requires
+verdict-numbers-requires c κs = search needs
+
+array-read-out : tie.Need-array-read-out
+array-read-out c = search needs
+
+slice-write-out : tie.Need-slice-write-out
+slice-write-out c = let e = c .before in let room = e .before .before .before .pre (e .if1 .left) in omega arith
+
+array-read-out-2 : tie.Need-array-read-out-2
+array-read-out-2 c = search needs
+
+slice-write-out-2 : tie.Need-slice-write-out-2
+slice-write-out-2 c = let e = c .before in let room = e .before .before .before .pre (e .if1 .left) in simp length-set (omega arith)
+
+array-read-out-3 : tie.Need-array-read-out-3
+array-read-out-3 c = search needs
+
+slice-write-out-3 : tie.Need-slice-write-out-3
+slice-write-out-3 c = let e = c .before in let room = e .before .before .before .pre (e .if1 .left) in simp length-set (omega arith)
+
+array-read-out-4 : tie.Need-array-read-out-4
+array-read-out-4 c = search needs
+
+slice-write-out-4 : tie.Need-slice-write-out-4
+slice-write-out-4 c = let e = c .before in let room = e .before .before .before .pre (e .if1 .left) in simp length-set (omega arith)
+
+same-length : tie.Need-same-length
+same-length c = search needs
+
+returns-2 : tie.Need-returns-2
+returns-2 c =
+    let e = c .before in
+    let s = e .before .before .before in
+    let a = s .args in
+    rw (c .verdict-numbers .ensures)
+    (front-first (verdictNumbers (a .v)) (a .out .now) (s .pre (e .if1 .left))
+    ∙ in-front (a .refusal) (verdictNumbers (a .v)) (a .out .now) (e .if1 .left))
+
+pub put-verdict-spec : {M : Type 1} → statement M
+put-verdict-spec =
+    tie.close
+    (tie.spec
+    returns
+    verdict-numbers-requires
+    array-read-out
+    slice-write-out
+    array-read-out-2
+    slice-write-out-2
+    array-read-out-3
+    slice-write-out-3
+    array-read-out-4
+    slice-write-out-4
+    same-length
+    returns-2)

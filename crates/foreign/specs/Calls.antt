@@ -1,0 +1,35 @@
+-- What each call from outside gives of the answer of the call within: the answer, and the lent lists afterwards.
+-- Assumes nothing.
+use mathlib.Core.List.{List}
+use Prim.Native.Nat.{ℕ}
+use lib.IntN.{ℤ}
+use lib.Ieee.{Float}
+use Rattle.curve.specs.declared.Evaluation.{Evaluation}
+use Rattle.curve.specs.declared.Subdivision.{Subdivision}
+use Rattle.curve.specs.declared.Elevation.{Elevation}
+use Rattle.curve.specs.declared.Enclosure.{Enclosure}
+use Rattle.card_text.specs.declared.CardRead.{CardRead}
+use Rattle.card_text.specs.Card.{sides}
+use Rattle.search.specs.declared.SearchAnswer.{SearchAnswer}
+use Rattle.foreign.specs.Numbers.{curveNumbers, ohmNumbers, verdictNumbers}
+use Rattle.foreign.specs.Answer.{Gives, GivesBoth}
+
+-- the load, and its ohms
+abbrev pub GivesEvaluation : Evaluation → List ℤ → List Float → ℕ → List ℤ → List Float → Type 0
+GivesEvaluation e load ohms = GivesBoth (e .refusal) (sides (e .load)) load (ohmNumbers (e .ohms)) ohms
+
+-- the left piece, and the right one
+abbrev pub GivesSubdivision : Subdivision → List ℤ → List ℤ → ℕ → List ℤ → List ℤ → Type 0
+GivesSubdivision s left right = GivesBoth (s .refusal) (curveNumbers (s .left)) left (curveNumbers (s .right)) right
+
+abbrev pub GivesElevation : Elevation → List ℤ → ℕ → List ℤ → Type 0
+GivesElevation e = Gives (e .refusal) (curveNumbers (e .curve))
+
+abbrev pub GivesEnclosure : Enclosure → List ℤ → ℕ → List ℤ → Type 0
+GivesEnclosure e = Gives (e .refusal) (sides (e .rect))
+
+abbrev pub GivesSearch : SearchAnswer → List ℕ → ℕ → List ℕ → Type 0
+GivesSearch a = Gives (a .refusal) (verdictNumbers (a .verdict))
+
+abbrev pub GivesCard : CardRead → List ℤ → ℕ → List ℤ → Type 0
+GivesCard r = Gives (r .refusal) (curveNumbers (r .curve))

@@ -1,0 +1,5 @@
+pub mod Numbers
+pub mod Answer
+pub mod Calls
+pub mod Inner
+pub mod Promises

@@ -1,0 +1,54 @@
+-- Curves, rectangles and results as lists of numbers, as a caller outside lends them.
+-- Assumes nothing.
+use mathlib.Core.List.{List, [], _∷_, _++_}
+use Prim.Native.Nat.{ℕ, zero, suc, _+_, _*_}
+use lib.IntN.{ℤ, pos}
+use lib.Ieee.{Float}
+use lib.ListN.{getD}
+use Rattle.curve.specs.declared.Rect.{Rect}
+use Rattle.curve.specs.declared.Curve.{Curve}
+use Rattle.curve.specs.declared.Ohms.{Ohms}
+use Rattle.curve.specs.Curve.{curveOf, point}
+use Rattle.card_text.specs.Card.{sides}
+use Rattle.search.specs.declared.Verdict.{Verdict}
+use Rattle.search.specs.Verdict.{Report, reported}
+
+-- ---- what a call is given
+
+-- a side by its index; one that the list does not have counts as zero
+abbrev pub sideAt : List ℤ → ℕ → ℤ
+sideAt zs k = getD zs k (pos 0)
+
+-- the rectangle whose four sides begin at an index
+unfoldable pub rectAt : List ℤ → ℕ → Rect
+rectAt zs at =
+    record {
+      resistance = record { low = sideAt zs at; high = sideAt zs (at + 1) };
+      reactance = record { low = sideAt zs (at + 2); high = sideAt zs (at + 3) };
+    }
+
+-- the curve of a degree with these sides, four a rectangle
+unfoldable pub curveFrom : ℕ → List ℤ → Curve
+curveFrom degree zs = curveOf degree (λ k. rectAt zs (4 * k))
+
+-- ---- what a call gives; a rectangle is its four sides, as on a card
+
+-- the sides of the first m rectangles
+unfoldable pub sidesTo : ℕ → (ℕ → Rect) → List ℤ
+sidesTo zero P = []
+sidesTo (suc m) P = sidesTo m P ++ sides (P m)
+
+-- a curve: its degree, and the sides of its rectangles 0 to n
+unfoldable pub curveNumbers : Curve → List ℤ
+curveNumbers c = pos (c .degree) ∷ sidesTo (c .degree + 1) (point c)
+
+-- a load in ohms
+abbrev pub ohmNumbers : Ohms → List Float
+ohmNumbers o = o .rlow ∷ o .rhigh ∷ o .xlow ∷ o .xhigh ∷ []
+
+-- a verdict: which of the four, the depth and the index of the piece that it names, and the count
+abbrev pub reportNumbers : Report → List ℕ
+reportNumbers r = r .number ∷ r .depth ∷ r .index ∷ r .count ∷ []
+
+abbrev pub verdictNumbers : Verdict → List ℕ
+verdictNumbers v = reportNumbers (reported v)

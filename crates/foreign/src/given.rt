@@ -1,0 +1,62 @@
+// Rectangles and curves from the sides that a caller lends. Sides that a slice does not have count as zero.
+ghost use mathlib.Core.Path.{_≡_};
+ghost use Prim.Native.Nat.{_≤_};
+ghost use Rattle.foreign.specs.Numbers.{sideAt, rectAt, curveFrom};
+ghost use Rattle.foreign.specs.Inner.{lastPlace};
+use crate::results::RECT_LENGTH;
+use curve::Curve;
+use curve::Interval;
+use curve::MAX_DEGREE;
+use curve::PLACES;
+use curve::Rect;
+use curve::zero_rect;
+
+// The side at an index.
+fn side_at(sides: &[i32], k: usize) -> i32
+    ensures { λ r. ⌜ r ≡ sideAt (now (sides .entry)) k ⌝ }
+{
+    if k < sides.len() { sides[k] } else { 0 }
+}
+
+// The rectangle whose sides begin at an index.
+pub fn rect_at(sides: &[i32], at: usize) -> Rect
+    requires { ⌜ at ≤ 32 ⌝ }
+    ensures { λ r. ⌜ r ≡ rectAt (now (sides .entry)) at ⌝ }
+{
+    Rect {
+        resistance: Interval {
+            low: side_at(sides, at),
+            high: side_at(sides, at + 1),
+        },
+        reactance: Interval {
+            low: side_at(sides, at + 2),
+            high: side_at(sides, at + 3),
+        },
+    }
+}
+
+// The last place of a record that a curve of this degree fills.
+fn last_place(degree: u32) -> usize
+    ensures { λ r. ⌜ r ≡ lastPlace degree ⌝ }
+{
+    if degree <= MAX_DEGREE {
+        degree as usize
+    } else {
+        PLACES - 1
+    }
+}
+
+// The curve of this degree with these sides.
+pub fn curve_from(degree: u32, sides: &[i32]) -> Curve
+    ensures { λ r. ⌜ r ≡ curveFrom degree (now (sides .entry)) ⌝ }
+{
+    let last = last_place(degree);
+    let mut points = [zero_rect(); PLACES];
+    points[0] = rect_at(sides, 0);
+    let mut k = 0;
+    while k < last {
+        k += 1;
+        points[k] = rect_at(sides, RECT_LENGTH * k);
+    }
+    Curve { degree, points }
+}

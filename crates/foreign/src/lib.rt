@@ -1,0 +1,147 @@
+// Every public call on numbers and lent slices, for C and Rust to call. Prototypes and the layout of curves are in include/jusqani.h.
+// Each takes any slices, and gives what the call within gives (specs/Calls.antt) or refuses; a refused call stores nothing.
+ghost use mathlib.Core.Path.{_≡_};
+ghost use Rattle.curve.specs.Calls.{evaluated, subdivided, elevated, bounded};
+ghost use Rattle.card_text.specs.Reading.{readCard};
+ghost use Rattle.card_text.specs.Writing.{writeCard, bytesAfter};
+ghost use Rattle.search.specs.Search.{searched};
+ghost use Rattle.foreign.specs.Numbers.{rectAt, curveFrom};
+ghost use Rattle.foreign.specs.Answer.{answerOf};
+ghost use Rattle.foreign.specs.Calls.{
+  GivesEvaluation,
+  GivesSubdivision,
+  GivesElevation,
+  GivesEnclosure,
+  GivesSearch,
+  GivesCard,
+};
+
+mod answers;
+mod given;
+mod results;
+
+use answers::answer_of;
+use answers::shorter;
+use curve::first_of;
+use given::curve_from;
+use given::rect_at;
+use results::RECT_LENGTH;
+use results::VERDICT_LENGTH;
+use results::curve_length;
+use results::put_curve;
+use results::put_ohms;
+use results::put_rect;
+use results::put_verdict;
+
+// The load at num/den and its ohms; refusals 1 to 5 and 12.
+#[no_mangle]
+pub extern "C" fn jusqani_evaluate(
+    degree: u32,
+    sides: &[i32],
+    num: u32,
+    den: u32,
+    load: &mut [i32],
+    ohms: &mut [f32],
+) -> u64
+    ensures { λ r. ⌜ GivesEvaluation (evaluated (curveFrom degree (now (sides .entry))) num den) (now (load .entry)) (now (ohms .entry)) r (now (load .exit)) (now (ohms .exit)) ⌝ }
+{
+    let answer = curve::evaluate(curve_from(degree, sides), num, den);
+    let room = first_of(
+        shorter(RECT_LENGTH, load.len()),
+        shorter(RECT_LENGTH, ohms.len()),
+    );
+    let refusal = first_of(answer.refusal, room);
+    put_rect(load, refusal, answer.load);
+    put_ohms(ohms, refusal, answer.ohms);
+    answer_of(refusal)
+}
+
+// The two pieces at num/den; refusals 1 to 5 and 12.
+#[no_mangle]
+pub extern "C" fn jusqani_subdivide(
+    degree: u32,
+    sides: &[i32],
+    num: u32,
+    den: u32,
+    left: &mut [i32],
+    right: &mut [i32],
+) -> u64
+    ensures { λ r. ⌜ GivesSubdivision (subdivided (curveFrom degree (now (sides .entry))) num den) (now (left .entry)) (now (right .entry)) r (now (left .exit)) (now (right .exit)) ⌝ }
+{
+    let answer = curve::subdivide(curve_from(degree, sides), num, den);
+    let first = answer.left;
+    let second = answer.right;
+    let room = first_of(
+        shorter(curve_length(first.degree), left.len()),
+        shorter(curve_length(second.degree), right.len()),
+    );
+    let refusal = first_of(answer.refusal, room);
+    put_curve(left, refusal, first);
+    put_curve(right, refusal, second);
+    answer_of(refusal)
+}
+
+// The curve with its degree raised by one; refusals 1 to 3, 6 and 12.
+#[no_mangle]
+pub extern "C" fn jusqani_elevate(degree: u32, sides: &[i32], raised: &mut [i32]) -> u64
+    ensures { λ r. ⌜ GivesElevation (elevated (curveFrom degree (now (sides .entry)))) (now (raised .entry)) r (now (raised .exit)) ⌝ }
+{
+    let answer = curve::elevate(curve_from(degree, sides));
+    let curve = answer.curve;
+    let room = shorter(curve_length(curve.degree), raised.len());
+    let refusal = first_of(answer.refusal, room);
+    put_curve(raised, refusal, curve);
+    answer_of(refusal)
+}
+
+// The least rectangle that holds the curve's; refusals 1 to 3 and 12.
+#[no_mangle]
+pub extern "C" fn jusqani_bounds(degree: u32, sides: &[i32], rect: &mut [i32]) -> u64
+    ensures { λ r. ⌜ GivesEnclosure (bounded (curveFrom degree (now (sides .entry)))) (now (rect .entry)) r (now (rect .exit)) ⌝ }
+{
+    let answer = curve::bounds(curve_from(degree, sides));
+    let refusal = first_of(answer.refusal, shorter(RECT_LENGTH, rect.len()));
+    put_rect(rect, refusal, answer.rect);
+    answer_of(refusal)
+}
+
+// The verdict on whether the curve stays in a box; refusals 1 to 3, 7 to 9 and 12.
+#[no_mangle]
+pub extern "C" fn jusqani_search(
+    degree: u32,
+    sides: &[i32],
+    limits: &[i32],
+    depth: u32,
+    budget: u32,
+    verdict: &mut [u32],
+) -> u64
+    ensures { λ r. ⌜ GivesSearch (searched (curveFrom degree (now (sides .entry))) (rectAt (now (limits .entry)) 0) depth budget) (now (verdict .entry)) r (now (verdict .exit)) ⌝ }
+{
+    let answer = search::search(curve_from(degree, sides), rect_at(limits, 0), depth, budget);
+    let refusal = first_of(answer.refusal, shorter(VERDICT_LENGTH, verdict.len()));
+    let found = answer.verdict;
+    put_verdict(verdict, refusal, found);
+    answer_of(refusal)
+}
+
+// The curve on a card; refusals 10, 11, 1 to 3 and 12.
+#[no_mangle]
+pub extern "C" fn jusqani_read_card(card: &[u8], curve: &mut [i32]) -> u64
+    ensures { λ r. ⌜ GivesCard (readCard (now (card .entry))) (now (curve .entry)) r (now (curve .exit)) ⌝ }
+{
+    let answer = card_text::read_card(card);
+    let read = answer.curve;
+    let room = shorter(curve_length(read.degree), curve.len());
+    let refusal = first_of(answer.refusal, room);
+    put_curve(curve, refusal, read);
+    answer_of(refusal)
+}
+
+// The card of a curve; refusals 1 to 3 and 12.
+#[no_mangle]
+pub extern "C" fn jusqani_write_card(degree: u32, sides: &[i32], card: &mut [u8]) -> u64
+    ensures { λ r. ⌜ (r ≡ answerOf (writeCard (curveFrom degree (now (sides .entry))) (now (card .entry)) .refusal)) × (now (card .exit) ≡ bytesAfter (curveFrom degree (now (sides .entry))) (now (card .entry))) ⌝ }
+{
+    let answer = card_text::write_card(curve_from(degree, sides), card);
+    answer_of(answer.refusal)
+}

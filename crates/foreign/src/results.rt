@@ -1,0 +1,141 @@
+// Results stored in front of the slices that a caller lends for them. A refused call stores nothing.
+ghost use mathlib.Core.Path.{_≡_};
+ghost use mathlib.Core.List.{_++_};
+ghost use Prim.Native.Nat.{_+_, _*_, _≤_};
+ghost use lib.ListN.{length, drop};
+ghost use lib.Seq.{sets};
+ghost use Rattle.curve.specs.Limits.{maxDegree};
+ghost use Rattle.card_text.specs.Card.{sides};
+ghost use Rattle.foreign.specs.Numbers.{curveNumbers, ohmNumbers, reportNumbers, verdictNumbers};
+ghost use Rattle.foreign.specs.Answer.{after};
+ghost use Rattle.foreign.specs.Inner.{Room};
+ghost use Rattle.search.specs.Verdict.{report};
+use curve::Curve;
+use curve::Ohms;
+use curve::Rect;
+use curve::Refusal;
+use search::Verdict;
+
+// The numbers of a rectangle, and of a verdict.
+pub const RECT_LENGTH: usize = 4;
+
+pub const VERDICT_LENGTH: usize = 4;
+
+// The numbers of a curve of this degree: the degree, and its sides.
+pub fn curve_length(degree: u32) -> usize
+    ensures { λ r. ⌜ r ≡ 1 + 4 * (degree + 1) ⌝ }
+{
+    1 + RECT_LENGTH * (degree as usize + 1)
+}
+
+// Stores a rectangle's sides at an offset.
+fn store_rect(out: &mut [i32], at: usize, p: Rect)
+    requires { ⌜ at + 4 ≤ length (now out) ⌝ }
+    ensures { λ _. ⌜ now (out .exit) ≡ sets (now (out .entry)) at (sides p) ⌝ }
+{
+    let r = p.resistance;
+    let x = p.reactance;
+    let rlow = r.low;
+    let rhigh = r.high;
+    let xlow = x.low;
+    let xhigh = x.high;
+    out[at] = rlow;
+    out[at + 1] = rhigh;
+    out[at + 2] = xlow;
+    out[at + 3] = xhigh;
+}
+
+// Stores a curve's degree and sides.
+fn store_curve(out: &mut [i32], c: Curve)
+    requires { ⌜ c .degree ≤ maxDegree ⌝ }
+    requires { ⌜ length (curveNumbers c) ≤ length (now out) ⌝ }
+    ensures { λ _. ⌜ now (out .exit) ≡ curveNumbers c ++ drop (length (curveNumbers c)) (now (out .entry)) ⌝ }
+{
+    out[0] = c.degree as i32;
+    let n = c.degree as usize;
+    let mut k = 0;
+    while k <= n {
+        let p = c.points[k];
+        store_rect(out, 1 + RECT_LENGTH * k, p);
+        k += 1;
+    }
+}
+
+// Gives a rectangle.
+pub fn put_rect(out: &mut [i32], refusal: Refusal, p: Rect)
+    requires { ⌜ Room refusal 4 (now out) ⌝ }
+    ensures { λ _. ⌜ now (out .exit) ≡ after refusal (sides p) (now (out .entry)) ⌝ }
+{
+    if refusal.number != 0 {
+        return;
+    }
+    store_rect(out, 0, p);
+}
+
+// Gives a curve.
+pub fn put_curve(out: &mut [i32], refusal: Refusal, c: Curve)
+    requires { ⌜ c .degree ≤ maxDegree ⌝ }
+    requires { ⌜ Room refusal (length (curveNumbers c)) (now out) ⌝ }
+    ensures { λ _. ⌜ now (out .exit) ≡ after refusal (curveNumbers c) (now (out .entry)) ⌝ }
+{
+    if refusal.number != 0 {
+        return;
+    }
+    store_curve(out, c);
+}
+
+// Gives a load in ohms.
+pub fn put_ohms(out: &mut [f32], refusal: Refusal, o: Ohms)
+    requires { ⌜ Room refusal 4 (now out) ⌝ }
+    ensures { λ _. ⌜ now (out .exit) ≡ after refusal (ohmNumbers o) (now (out .entry)) ⌝ }
+{
+    if refusal.number != 0 {
+        return;
+    }
+    out[0] = o.rlow;
+    out[1] = o.rhigh;
+    out[2] = o.xlow;
+    out[3] = o.xhigh;
+}
+
+// A verdict's numbers.
+fn report(number: u32, depth: u32, index: u32, count: u32) -> [u32; 4]
+    ensures { λ r. ⌜ r ≡ reportNumbers (report number depth index count) ⌝ }
+{
+    [number, depth, index, count]
+}
+
+fn verdict_numbers(v: Verdict) -> [u32; 4]
+    ensures { λ r. ⌜ r ≡ verdictNumbers v ⌝ }
+{
+    match v {
+        Verdict::Refused => report(0, 0, 0, 0),
+        Verdict::Inside(count) => report(1, 0, 0, count),
+        Verdict::Outside {
+            depth,
+            index,
+            count,
+        } => report(2, depth, index, count),
+        Verdict::Spent(count) => report(3, 0, 0, count),
+        Verdict::Undecided {
+            depth,
+            index,
+            count,
+        } => report(4, depth, index, count),
+    }
+}
+
+// Gives a verdict.
+pub fn put_verdict(out: &mut [u32], refusal: Refusal, v: Verdict)
+    requires { ⌜ Room refusal 4 (now out) ⌝ }
+    ensures { λ _. ⌜ now (out .exit) ≡ after refusal (verdictNumbers v) (now (out .entry)) ⌝ }
+{
+    if refusal.number != 0 {
+        return;
+    }
+    let numbers = verdict_numbers(v);
+    out[0] = numbers[0];
+    out[1] = numbers[1];
+    out[2] = numbers[2];
+    out[3] = numbers[3];
+}
