@@ -2,13 +2,13 @@
 -- Assumes nothing.
 use mathlib.Core.Path.{_≡_, sym, ap, ap₂, _∙_}
 use mathlib.Core.Bool.{Bool, cond}
-use mathlib.Core.List.{List, _∷_, _++_}
-use Prim.Native.Nat.{ℕ, suc, _+_, _≤_}
+use mathlib.Core.List.{List, [], _∷_, _++_}
+use Prim.Native.Nat.{ℕ, _+_, _≤_, _<_}
 use native.Mathlib.Nat.{zero-add}
 use native.Mathlib.Omega.{arith}
 use lib.Dec.{eqb}
-use lib.ListN.{length, drop, set, length-append, length-drop}
-use lib.Seq.{sets, sets-eq, take-at, drop-at, drop-drop, drop-set-lt}
+use lib.ListN.{length, getD, drop, length-append, length-drop}
+use lib.Seq.{sets, sets-eq, take-at, drop-at, drop-drop, drop-cons}
 use borrow.Author.Tests.{eq-eqb, ne-eqb}
 use Rattle.curve.specs.declared.Refusal.{Refusal}
 use Rattle.foreign.specs.Answer.{after}
@@ -38,9 +38,9 @@ module _ {A : Type 0} where
       sets-eq ys (front xs out) m (omega arith)
       ∙ ap₂ (λ (a b : List A). a ++ ys ++ b) (take-at xs rest m long) past
 
-  -- a number that is stored over does not show
-  pub front-over : (x y : A) (xs out : List A) → front (x ∷ xs) (set out 0 y) ≡ front (x ∷ xs) out
-  front-over x y xs out = ap (λ (l : List A). x ∷ (xs ++ l)) (drop-set-lt (suc (length xs)) out 0 y (omega arith))
+  -- the first number of a list, in front of the same
+  pub front-same : (out : List A) (d : A) → 0 < length out → out ≡ front (getD out 0 d ∷ []) out
+  front-same out d some = drop-cons out 0 d some
 
   module _ (r : Refusal) (result out : List A) where
     abbrev leftIf : Bool → List A

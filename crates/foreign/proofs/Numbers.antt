@@ -16,7 +16,6 @@ use mir.Val.{toZ}
 use mir.ValLaws.{toZ-ofZ}
 use Rattle.curve.specs.declared.Rect.{Rect}
 use Rattle.curve.specs.declared.Curve.{Curve}
-use Rattle.curve.specs.declared.Refusal.{Refusal}
 use Rattle.curve.specs.Limits.{maxDegree}
 use Rattle.curve.specs.Curve.{point, pointsOf, zeroCurve}
 use Rattle.curve.proofs.Places.{is-points, points-length, points-at, points-past}
@@ -25,7 +24,6 @@ use Rattle.card_text.specs.Card.{sides}
 use Rattle.card_text.specs.Reading.{numberAt, decoded, cardRefusal, readCard}
 use Rattle.card_text.proofs.Degree.{degree-at-most}
 use Rattle.foreign.specs.Numbers.{sidesTo, curveNumbers}
-use Rattle.foreign.specs.Answer.{shorter}
 use Rattle.foreign.specs.Inner.{lastPlace}
 
 module _ (P : ℕ → Rect) where
@@ -43,9 +41,9 @@ pub curve-length : (c : Curve) → length (curveNumbers c) ≡ 1 + 4 * (c .degre
 unfolding curveNumbers
 curve-length c = ap suc (sides-length (point c) (c .degree + 1)) ∙ omega arith
 
--- the refusal of a list that is shorter than a curve, by the length that its degree gives
-pub curve-room : (c : Curve) (size : ℕ) {n : ℕ} {room : Refusal} → n ≡ 1 + 4 * (c .degree + 1) → room ≡ shorter n size → room ≡ shorter (length (curveNumbers c)) size
-curve-room c size long tested = tested ∙ ap (λ (m : ℕ). shorter m size) (long ∙ sym (curve-length c))
+-- the length that a degree gives
+pub length-by-degree : (c : Curve) {n : ℕ} → n ≡ 1 + 4 * (c .degree + 1) → n ≡ length (curveNumbers c)
+length-by-degree c e = e ∙ sym (curve-length c)
 
 -- the curve that a card gives, the zero curve where it is refused, has a degree of at most the highest
 pub card-few : (bytes : List ℕ) → readCard bytes .curve .degree ≤ maxDegree

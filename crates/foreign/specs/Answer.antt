@@ -40,7 +40,7 @@ pub record Gives {A : Type 0} (refused : Refusal) (result out : List A) (answer 
 -- a call with two results, either stored only if both can be
 abbrev pub refusedOf : {A B : Type 0} → Refusal → List A → List A → List B → List B → Refusal
 refusedOf refused result out result′ out′ =
-    refused orElse shorter (length result) (length out) orElse shorter (length result′) (length out′)
+    (refused orElse shorter (length result) (length out)) orElse shorter (length result′) (length out′)
 
 pub record GivesBoth {A B : Type 0} (refused : Refusal) (result out : List A) (result′ out′ : List B) (answer : ℕ) (left : List A) (left′ : List B) : Type 0 where
   pub answered : answer ≡ answerOf (refusedOf refused result out result′ out′)

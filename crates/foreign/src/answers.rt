@@ -1,7 +1,9 @@
 // Answers in 64 bits, and the refusal of a slice that is too short.
 ghost use mathlib.Core.Path.{_≡_};
+ghost use Rattle.curve.specs.Refusals.{_orElse_};
 ghost use Rattle.foreign.specs.Answer.{placeOf, answerOf, shorter};
 use curve::Refusal;
+use curve::first_of;
 use curve::refused_unless;
 
 // 2 to the power 32, and the largest place that an answer can carry.
@@ -26,9 +28,9 @@ pub fn answer_of(refusal: Refusal) -> u64
     refusal.number as u64 + WORD * place_of(refusal.place)
 }
 
-// 12 where a slice of this size is shorter than what is needed.
-pub fn shorter(needed: usize, size: usize) -> Refusal
-    ensures { λ r. ⌜ r ≡ shorter needed size ⌝ }
+// The refusal, or 12 where there is none and a slice of this size is shorter than what is needed.
+pub fn with_room(refusal: Refusal, needed: usize, size: usize) -> Refusal
+    ensures { λ r. ⌜ r ≡ (refusal orElse shorter needed size) ⌝ }
 {
-    refused_unless(needed <= size, 12, needed)
+    first_of(refusal, refused_unless(needed <= size, 12, needed))
 }

@@ -21,8 +21,7 @@ mod given;
 mod results;
 
 use answers::answer_of;
-use answers::shorter;
-use curve::first_of;
+use answers::with_room;
 use given::curve_from;
 use given::rect_at;
 use results::RECT_LENGTH;
@@ -46,11 +45,8 @@ pub extern "C" fn jusqani_evaluate(
     ensures { λ r. ⌜ GivesEvaluation (evaluated (curveFrom degree (now (sides .entry))) num den) (now (load .entry)) (now (ohms .entry)) r (now (load .exit)) (now (ohms .exit)) ⌝ }
 {
     let answer = curve::evaluate(curve_from(degree, sides), num, den);
-    let room = first_of(
-        shorter(RECT_LENGTH, load.len()),
-        shorter(RECT_LENGTH, ohms.len()),
-    );
-    let refusal = first_of(answer.refusal, room);
+    let first = with_room(answer.refusal, RECT_LENGTH, load.len());
+    let refusal = with_room(first, RECT_LENGTH, ohms.len());
     put_rect(load, refusal, answer.load);
     put_ohms(ohms, refusal, answer.ohms);
     answer_of(refusal)
@@ -69,15 +65,12 @@ pub extern "C" fn jusqani_subdivide(
     ensures { λ r. ⌜ GivesSubdivision (subdivided (curveFrom degree (now (sides .entry))) num den) (now (left .entry)) (now (right .entry)) r (now (left .exit)) (now (right .exit)) ⌝ }
 {
     let answer = curve::subdivide(curve_from(degree, sides), num, den);
-    let first = answer.left;
-    let second = answer.right;
-    let room = first_of(
-        shorter(curve_length(first.degree), left.len()),
-        shorter(curve_length(second.degree), right.len()),
-    );
-    let refusal = first_of(answer.refusal, room);
-    put_curve(left, refusal, first);
-    put_curve(right, refusal, second);
+    let start = answer.left;
+    let rest = answer.right;
+    let first = with_room(answer.refusal, curve_length(start.degree), left.len());
+    let refusal = with_room(first, curve_length(rest.degree), right.len());
+    put_curve(left, refusal, start);
+    put_curve(right, refusal, rest);
     answer_of(refusal)
 }
 
@@ -88,8 +81,7 @@ pub extern "C" fn jusqani_elevate(degree: u32, sides: &[i32], raised: &mut [i32]
 {
     let answer = curve::elevate(curve_from(degree, sides));
     let curve = answer.curve;
-    let room = shorter(curve_length(curve.degree), raised.len());
-    let refusal = first_of(answer.refusal, room);
+    let refusal = with_room(answer.refusal, curve_length(curve.degree), raised.len());
     put_curve(raised, refusal, curve);
     answer_of(refusal)
 }
@@ -100,7 +92,7 @@ pub extern "C" fn jusqani_bounds(degree: u32, sides: &[i32], rect: &mut [i32]) -
     ensures { λ r. ⌜ GivesEnclosure (bounded (curveFrom degree (now (sides .entry)))) (now (rect .entry)) r (now (rect .exit)) ⌝ }
 {
     let answer = curve::bounds(curve_from(degree, sides));
-    let refusal = first_of(answer.refusal, shorter(RECT_LENGTH, rect.len()));
+    let refusal = with_room(answer.refusal, RECT_LENGTH, rect.len());
     put_rect(rect, refusal, answer.rect);
     answer_of(refusal)
 }
@@ -118,7 +110,7 @@ pub extern "C" fn jusqani_search(
     ensures { λ r. ⌜ GivesSearch (searched (curveFrom degree (now (sides .entry))) (rectAt (now (limits .entry)) 0) depth budget) (now (verdict .entry)) r (now (verdict .exit)) ⌝ }
 {
     let answer = search::search(curve_from(degree, sides), rect_at(limits, 0), depth, budget);
-    let refusal = first_of(answer.refusal, shorter(VERDICT_LENGTH, verdict.len()));
+    let refusal = with_room(answer.refusal, VERDICT_LENGTH, verdict.len());
     let found = answer.verdict;
     put_verdict(verdict, refusal, found);
     answer_of(refusal)
@@ -131,8 +123,7 @@ pub extern "C" fn jusqani_read_card(card: &[u8], curve: &mut [i32]) -> u64
 {
     let answer = card_text::read_card(card);
     let read = answer.curve;
-    let room = shorter(curve_length(read.degree), curve.len());
-    let refusal = first_of(answer.refusal, room);
+    let refusal = with_room(answer.refusal, curve_length(read.degree), curve.len());
     put_curve(curve, refusal, read);
     answer_of(refusal)
 }

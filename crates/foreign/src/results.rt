@@ -6,10 +6,9 @@ ghost use lib.ListN.{length, drop};
 ghost use lib.Seq.{sets};
 ghost use Rattle.curve.specs.Limits.{maxDegree};
 ghost use Rattle.card_text.specs.Card.{sides};
-ghost use Rattle.foreign.specs.Numbers.{curveNumbers, ohmNumbers, reportNumbers, verdictNumbers};
+ghost use Rattle.foreign.specs.Numbers.{curveNumbers, ohmNumbers, verdictNumbers};
 ghost use Rattle.foreign.specs.Answer.{after};
 ghost use Rattle.foreign.specs.Inner.{Room};
-ghost use Rattle.search.specs.Verdict.{report};
 use curve::Curve;
 use curve::Ohms;
 use curve::Rect;
@@ -51,7 +50,6 @@ fn store_curve(out: &mut [i32], c: Curve)
     requires { ⌜ length (curveNumbers c) ≤ length (now out) ⌝ }
     ensures { λ _. ⌜ now (out .exit) ≡ curveNumbers c ++ drop (length (curveNumbers c)) (now (out .entry)) ⌝ }
 {
-    out[0] = c.degree as i32;
     let n = c.degree as usize;
     let mut k = 0;
     while k <= n {
@@ -59,6 +57,7 @@ fn store_curve(out: &mut [i32], c: Curve)
         store_rect(out, 1 + RECT_LENGTH * k, p);
         k += 1;
     }
+    out[0] = c.degree as i32;
 }
 
 // Gives a rectangle.
@@ -98,30 +97,24 @@ pub fn put_ohms(out: &mut [f32], refusal: Refusal, o: Ohms)
     out[3] = o.xhigh;
 }
 
-// A verdict's numbers.
-fn report(number: u32, depth: u32, index: u32, count: u32) -> [u32; 4]
-    ensures { λ r. ⌜ r ≡ reportNumbers (report number depth index count) ⌝ }
-{
-    [number, depth, index, count]
-}
-
+// A verdict's number, depth, index and count.
 fn verdict_numbers(v: Verdict) -> [u32; 4]
     ensures { λ r. ⌜ r ≡ verdictNumbers v ⌝ }
 {
     match v {
-        Verdict::Refused => report(0, 0, 0, 0),
-        Verdict::Inside(count) => report(1, 0, 0, count),
+        Verdict::Refused => [0, 0, 0, 0],
+        Verdict::Inside(count) => [1, 0, 0, count],
         Verdict::Outside {
             depth,
             index,
             count,
-        } => report(2, depth, index, count),
-        Verdict::Spent(count) => report(3, 0, 0, count),
+        } => [2, depth, index, count],
+        Verdict::Spent(count) => [3, 0, 0, count],
         Verdict::Undecided {
             depth,
             index,
             count,
-        } => report(4, depth, index, count),
+        } => [4, depth, index, count],
     }
 }
 

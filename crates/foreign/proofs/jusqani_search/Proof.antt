@@ -1,6 +1,6 @@
 -- `jusqani_search` meets its contract: the verdict on the curve and the box within.
 -- Assumes nothing.
-use mathlib.Core.Path.{_≡_, refl, ap₂, _∙_, subst}
+use mathlib.Core.Path.{refl, ap₂, _∙_, subst}
 use borrow.Author.Needs.{needs}
 use Rattle.curve.specs.declared.Curve.{Curve}
 use Rattle.curve.specs.declared.Rect.{Rect}
@@ -12,58 +12,34 @@ use Rattle.foreign.proofs.Answer.{has-room, gives}
 use Rattle.foreign.proofs.jusqani_search.Statement.{statement}
 use Rattle.foreign.proofs.jusqani_search.Tie as tie
 
-curve-from-requires : tie.Need-curve-from-requires
-curve-from-requires c κs = search needs
-
-rect-at-requires : tie.Need-rect-at-requires
-rect-at-requires c κs = search needs
-
-search-requires : tie.Need-search-requires
-search-requires c κs = search needs
-
-shorter-requires : tie.Need-shorter-requires
-shorter-requires c κs = search needs
-
-first-of-requires : tie.Need-first-of-requires
-first-of-requires c κs = search needs
-
 put-verdict-requires : tie.Need-put-verdict-requires
 put-verdict-requires c κs =
     let f = c .before in
-    let s = f .before in
-    let v = s .before in
-    has-room (v .search .result .refusal) (verdictNumbers (v .search .result .verdict)) (v .before .before .before .before .args .verdict .now) refl (s .shorter .ensures) (f .first-of .ensures)
-
-answer-of-requires : tie.Need-answer-of-requires
-answer-of-requires c κs = search needs
-
-same-length : tie.Need-same-length
-same-length c = search needs
+    let v = f .before in
+    let x = v .search .result in
+    has-room (x .refusal) (verdictNumbers (x .verdict)) (v .before .before .before .before .args .verdict .now) refl (f .with-room .ensures)
 
 returns : tie.Need-returns
 returns c =
     let p = c .before .before .before in
     let f = p .before .before in
-    let s = f .before in
-    let v = s .before in
+    let v = f .before in
+    let x = v .search .result in
     let b = v .before in
     let a = b .before .before .before .args in
-    let given =
-    gives (v .search .result .refusal) (verdictNumbers (v .search .result .verdict)) (a .verdict .now) refl (s .shorter .ensures) (f .first-of .ensures)
-    (c .answer-of .ensures) (p .put-verdict .ensures) in
-    subst (λ (x : SearchAnswer). GivesSearch x (a .verdict .now) (c .answer-of .result) (p .put-verdict .last .0))
-    (v .search .ensures ∙ ap₂ (λ (x : Curve) (y : Rect). searched x y (a .depth) (a .budget)) (b .before .curve-from .ensures) (b .rect-at .ensures)) given
+    subst (λ (s : SearchAnswer). GivesSearch s (a .verdict .now) (c .answer-of .result) (p .put-verdict .last .0))
+    (v .search .ensures ∙ ap₂ (λ (z : Curve) (y : Rect). searched z y (a .depth) (a .budget)) (b .before .curve-from .ensures) (b .rect-at .ensures))
+    (gives (x .refusal) (verdictNumbers (x .verdict)) (a .verdict .now) refl (f .with-room .ensures) (c .answer-of .ensures) (p .put-verdict .ensures))
 
 pub jusqani-search-spec : {M : Type 1} → statement M
 jusqani-search-spec =
     tie.close
     (tie.spec
-    curve-from-requires
-    rect-at-requires
-    search-requires
-    shorter-requires
-    first-of-requires
+    (λ c κs. search needs)
+    (λ c κs. search needs)
+    (λ c κs. search needs)
+    (λ c κs. search needs)
     put-verdict-requires
-    answer-of-requires
-    same-length
+    (λ c κs. search needs)
+    (λ c. search needs)
     returns)

@@ -9,18 +9,6 @@ use Rattle.foreign.specs.Answer.{answerOf}
 use Rattle.foreign.proofs.jusqani_write_card.Statement.{statement}
 use Rattle.foreign.proofs.jusqani_write_card.Tie as tie
 
-curve-from-requires : tie.Need-curve-from-requires
-curve-from-requires c κs = search needs
-
-write-card-requires : tie.Need-write-card-requires
-write-card-requires c κs = search needs
-
-answer-of-requires : tie.Need-answer-of-requires
-answer-of-requires c κs = search needs
-
-same-length : tie.Need-same-length
-same-length c = search needs
-
 returns : tie.Need-returns
 returns c =
     let w = c .before .before .before in
@@ -35,4 +23,4 @@ returns c =
 pub jusqani-write-card-spec : {M : Type 1} → statement M
 jusqani-write-card-spec =
     tie.close
-    (tie.spec curve-from-requires write-card-requires answer-of-requires same-length returns)
+    (tie.spec (λ c κs. search needs) (λ c κs. search needs) (λ c κs. search needs) (λ c. search needs) returns)

@@ -31,17 +31,8 @@ abbrev μ-loop : tie.MeasureT-loop
 last-few : (c : tie.After-last-place Inv-loop μ-loop) → c .last-place .result ≤ maxDegree
 last-few c = rw (c .last-place .ensures) (last-small (c .before .args .degree))
 
-last-place-requires : tie.Need-last-place-requires Inv-loop μ-loop
-last-place-requires c κs = search needs
-
-zero-rect-requires : tie.Need-zero-rect-requires Inv-loop μ-loop
-zero-rect-requires c κs = search needs
-
 rect-at-requires : tie.Need-rect-at-requires Inv-loop μ-loop
 rect-at-requires c κs = omega arith
-
-array-set-from-points : tie.Need-array-set-from-points Inv-loop μ-loop
-array-set-from-points c = search needs
 
 loop-holds : tie.Need-loop-holds Inv-loop μ-loop
 loop-holds c = (omega arith, rw (c .before .zero-rect .ensures, c .rect-at .ensures) (points-first (rects (c .before .before .before .args .sides .now))))
@@ -87,10 +78,10 @@ curve-from-spec =
     (tie.spec
     Inv-loop
     μ-loop
-    last-place-requires
-    zero-rect-requires
+    (λ c κs. search needs)
+    (λ c κs. search needs)
     rect-at-requires
-    array-set-from-points
+    (λ c. search needs)
     loop-holds
     add-k
     mul-rect-at

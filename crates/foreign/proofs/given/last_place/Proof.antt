@@ -6,9 +6,6 @@ use Rattle.curve.specs.Limits.{maxDegree}
 use Rattle.foreign.proofs.given.last_place.Statement.{statement}
 use Rattle.foreign.proofs.given.last_place.Tie as tie
 
-sub-result : tie.Need-sub-result
-sub-result c = search needs
-
 returns : tie.Need-returns
 returns c = rw (le-leb _ _ (c .if1 .taken))
 
@@ -16,4 +13,4 @@ returns-2 : tie.Need-returns-2
 returns-2 c = rw (lt-leb _ maxDegree (c .if1 .left))
 
 pub last-place-spec : {M : Type 1} → statement M
-last-place-spec = tie.close (tie.spec sub-result returns returns-2)
+last-place-spec = tie.close (tie.spec (λ c. search needs) returns returns-2)

@@ -6,27 +6,6 @@ use Rattle.foreign.specs.Numbers.{rectAt}
 use Rattle.foreign.proofs.given.rect_at.Statement.{statement}
 use Rattle.foreign.proofs.given.rect_at.Tie as tie
 
-side-at-requires : tie.Need-side-at-requires
-side-at-requires c κs = search needs
-
-add-side-at : tie.Need-add-side-at
-add-side-at c = search needs
-
-side-at-requires-2 : tie.Need-side-at-requires-2
-side-at-requires-2 c κs = search needs
-
-add-side-at-2 : tie.Need-add-side-at-2
-add-side-at-2 c = search needs
-
-side-at-requires-3 : tie.Need-side-at-requires-3
-side-at-requires-3 c κs = search needs
-
-add-side-at-3 : tie.Need-add-side-at-3
-add-side-at-3 c = search needs
-
-side-at-requires-4 : tie.Need-side-at-requires-4
-side-at-requires-4 c κs = search needs
-
 returns : tie.Need-returns
 unfolding rectAt
 returns c =
@@ -49,11 +28,11 @@ pub rect-at-spec : {M : Type 1} → statement M
 rect-at-spec =
     tie.close
     (tie.spec
-    side-at-requires
-    add-side-at
-    side-at-requires-2
-    add-side-at-2
-    side-at-requires-3
-    add-side-at-3
-    side-at-requires-4
+    (λ c κs. search needs)
+    (λ c. search needs)
+    (λ c κs. search needs)
+    (λ c. search needs)
+    (λ c κs. search needs)
+    (λ c. search needs)
+    (λ c κs. search needs)
     returns)

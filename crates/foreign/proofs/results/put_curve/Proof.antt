@@ -16,9 +16,6 @@ store-curve-requires c κs =
     let p = e .before .before .pre in
     (p .0, p .1 (e .if1 .left))
 
-same-length : tie.Need-same-length
-same-length c = search needs
-
 returns-2 : tie.Need-returns-2
 returns-2 c =
     let e = c .before .before .before in
@@ -26,4 +23,4 @@ returns-2 c =
     c .before .store-curve .ensures ∙ in-front (a .refusal) (curveNumbers (a .c)) (a .out .now) (e .if1 .left)
 
 pub put-curve-spec : {M : Type 1} → statement M
-put-curve-spec = tie.close (tie.spec returns store-curve-requires same-length returns-2)
+put-curve-spec = tie.close (tie.spec returns store-curve-requires (λ c. search needs) returns-2)

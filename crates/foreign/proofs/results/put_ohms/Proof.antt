@@ -24,9 +24,6 @@ slice-write-out-3 c = let room = c .before .before .pre (c .if1 .left) in simp l
 slice-write-out-4 : tie.Need-slice-write-out-4
 slice-write-out-4 c = let room = c .before .before .pre (c .if1 .left) in simp length-set (omega arith)
 
-same-length : tie.Need-same-length
-same-length c = search needs
-
 returns-2 : tie.Need-returns-2
 returns-2 c =
     let s = c .before .before in
@@ -43,5 +40,5 @@ put-ohms-spec =
     slice-write-out-2
     slice-write-out-3
     slice-write-out-4
-    same-length
+    (λ c. search needs)
     returns-2)

@@ -13,9 +13,6 @@ returns c = let a = c .before .before .args in all-kept (a .refusal) (sides (a .
 store-rect-requires : tie.Need-store-rect-requires
 store-rect-requires c κs = c .before .before .before .pre (c .before .if1 .left)
 
-same-length : tie.Need-same-length
-same-length c = search needs
-
 returns-2 : tie.Need-returns-2
 returns-2 c =
     let e = c .before .before .before in
@@ -26,4 +23,4 @@ returns-2 c =
     ∙ in-front (a .refusal) (sides (a .p)) (a .out .now) (e .if1 .left)
 
 pub put-rect-spec : {M : Type 1} → statement M
-put-rect-spec = tie.close (tie.spec returns store-rect-requires same-length returns-2)
+put-rect-spec = tie.close (tie.spec returns store-rect-requires (λ c. search needs) returns-2)

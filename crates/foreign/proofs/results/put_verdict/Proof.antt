@@ -15,35 +15,17 @@ use Rattle.foreign.proofs.results.put_verdict.Tie as tie
 returns : tie.Need-returns
 returns c = let a = c .before .before .before .args in all-kept (a .refusal) (verdictNumbers (a .v)) (a .out .now) (c .if1 .taken)
 
-verdict-numbers-requires : tie.Need-verdict-numbers-requires
-verdict-numbers-requires c κs = search needs
-
-array-read-out : tie.Need-array-read-out
-array-read-out c = search needs
-
 slice-write-out : tie.Need-slice-write-out
 slice-write-out c = let e = c .before in let room = e .before .before .before .pre (e .if1 .left) in omega arith
-
-array-read-out-2 : tie.Need-array-read-out-2
-array-read-out-2 c = search needs
 
 slice-write-out-2 : tie.Need-slice-write-out-2
 slice-write-out-2 c = let e = c .before in let room = e .before .before .before .pre (e .if1 .left) in simp length-set (omega arith)
 
-array-read-out-3 : tie.Need-array-read-out-3
-array-read-out-3 c = search needs
-
 slice-write-out-3 : tie.Need-slice-write-out-3
 slice-write-out-3 c = let e = c .before in let room = e .before .before .before .pre (e .if1 .left) in simp length-set (omega arith)
 
-array-read-out-4 : tie.Need-array-read-out-4
-array-read-out-4 c = search needs
-
 slice-write-out-4 : tie.Need-slice-write-out-4
 slice-write-out-4 c = let e = c .before in let room = e .before .before .before .pre (e .if1 .left) in simp length-set (omega arith)
-
-same-length : tie.Need-same-length
-same-length c = search needs
 
 returns-2 : tie.Need-returns-2
 returns-2 c =
@@ -59,14 +41,14 @@ put-verdict-spec =
     tie.close
     (tie.spec
     returns
-    verdict-numbers-requires
-    array-read-out
+    (λ c κs. search needs)
+    (λ c. search needs)
     slice-write-out
-    array-read-out-2
+    (λ c. search needs)
     slice-write-out-2
-    array-read-out-3
+    (λ c. search needs)
     slice-write-out-3
-    array-read-out-4
+    (λ c. search needs)
     slice-write-out-4
-    same-length
+    (λ c. search needs)
     returns-2)
