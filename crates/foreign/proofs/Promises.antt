@@ -1,6 +1,6 @@
 -- The promises of specs/Promises.antt.
 -- Assumes nothing.
-use mathlib.Core.Path.{_≡_, _∙_}
+use mathlib.Core.Path.{_≡_}
 use Prim.Native.Nat.{ℕ, _+_, _*_, _/_, _%_, _<_, _≤_}
 use native.Mathlib.Omega.{arith}
 use borrow.Author.Tests.{le-leb}
@@ -23,8 +23,9 @@ place-kept place h = rw (le-leb place maxPlace h)
 pub unpacked : Unpacked
 unfolding answerOf
 unpacked r small =
-    let high = high-half (r .number) (placeOf (r .place)) small in
-    (low-half (r .number) (placeOf (r .place)) small, high, λ fits. high ∙ place-kept (r .place) fits)
+    let n = r .number in
+    let p = placeOf (r .place) in
+    (low-half n p small, high-half n p small, λ fits. place-kept (r .place) (omega arith))
 
 pub curve-length : CurveLength
 curve-length = Numbers.curve-length
