@@ -71,7 +71,7 @@ fn status_of(ended: Result<(), Failure>, input: &str) -> ExitCode {
             ExitCode::SUCCESS
         }
         Err(Failure::Unwritable(error)) => {
-            fail(FAILED, &format!("the answers cannot be written: {error}\n"))
+            fail(FAILED, &format!("the output cannot be written: {error}\n"))
         }
     }
 }
