@@ -1,47 +1,73 @@
 //! The card's text: columns ten bytes wide, lines of columns, and the card that they make.
 
-use crate::model::{refuse_if, Curve, Rectangle, Refusal, MAX_DEGREE};
-use std::io::Write;
+use crate::model::{refuse_if, Curve, Refusal, MAX_DEGREE};
 
 pub const COLUMN: usize = 10;
 pub const FIRST_LINE: usize = 11;
 pub const LINE: usize = 41;
 pub const LINE_END: u8 = 10;
 
-/// The ten bytes of a number set to the right.
-fn column_of(number: i64) -> Option<[u8; COLUMN]> {
+/// The ten bytes of a number set to the right. It must be one of at most ten characters.
+fn column_of(number: i64) -> [u8; COLUMN] {
     let mut column = [b' '; COLUMN];
-    write!(&mut column[..], "{number:>10}").ok()?;
-    Some(column)
+    let mut rest = number.unsigned_abs();
+    let mut first = COLUMN;
+    while rest > 0 || first == COLUMN {
+        first -= 1;
+        column[first] = b'0' + (rest % 10) as u8;
+        rest /= 10;
+    }
+    if number < 0 {
+        column[first - 1] = b'-';
+    }
+    column
 }
 
-/// The number of a column, where there is one whose ten bytes these are.
+/// The number of a well-formed column: spaces, then a minus or none, then digits. There is no leading
+/// zero, unless the number is zero, and then no minus.
 pub fn number_of(column: &[u8]) -> Option<i64> {
-    let text = std::str::from_utf8(column).ok()?;
-    let number = text.trim_start_matches(' ').parse().ok()?;
-    let same = column_of(number)? == *column;
-    same.then_some(number)
+    let spaces = column.iter().take_while(|byte| **byte == b' ').count();
+    let signed = &column[spaces..];
+    let digits = signed.strip_prefix(b"-").unwrap_or(signed);
+    let (first, others) = digits.split_first()?;
+    let leading_zero = *first == b'0' && (!others.is_empty() || signed.len() > digits.len());
+    if leading_zero || !digits.iter().all(u8::is_ascii_digit) {
+        return None;
+    }
+    let size = digits
+        .iter()
+        .fold(0, |size, digit| 10 * size + i64::from(digit - b'0'));
+    Some(if signed.len() > digits.len() {
+        -size
+    } else {
+        size
+    })
 }
 
 /// One line of columns.
 pub fn line_of(numbers: &[i64]) -> Vec<u8> {
     let mut line = Vec::with_capacity(COLUMN * numbers.len() + 1);
-    for number in numbers {
-        line.extend(column_of(*number).expect("a number of at most ten characters"));
-    }
-    line.push(LINE_END);
+    write_line(numbers, &mut line);
     line
 }
 
-pub fn card_length(degree: usize) -> usize {
+fn write_line(numbers: &[i64], text: &mut Vec<u8>) {
+    for number in numbers {
+        text.extend(column_of(*number));
+    }
+    text.push(LINE_END);
+}
+
+pub const fn card_length(degree: usize) -> usize {
     FIRST_LINE + LINE * (degree + 1)
 }
 
 /// The card of a curve, whose sides may be out of range.
 pub fn card_of(curve: &Curve) -> Vec<u8> {
-    let mut card = line_of(&[curve.degree as i64]);
+    let mut card = Vec::with_capacity(card_length(curve.degree));
+    write_line(&[curve.degree as i64], &mut card);
     for rectangle in curve.control_points() {
-        card.extend(line_of(rectangle));
+        write_line(rectangle, &mut card);
     }
     card
 }
@@ -76,13 +102,12 @@ pub fn degree_of(card: &[u8]) -> Result<usize, Refusal> {
 
 /// The curve of a card, or the card's refusal.
 pub fn curve_of(card: &[u8]) -> Result<Curve, Refusal> {
-    let degree = degree_of(card)?;
-    refuse_if(card.len() != card_length(degree), 10, card.len())?;
-    let mut rectangles: Vec<Rectangle> = Vec::new();
-    for k in 0..=degree {
-        rectangles.push(numbers_at(card, FIRST_LINE + LINE * k)?);
+    let mut curve = Curve::ZERO;
+    curve.degree = degree_of(card)?;
+    refuse_if(card.len() != card_length(curve.degree), 10, card.len())?;
+    for k in 0..=curve.degree {
+        curve.points[k] = numbers_at(card, FIRST_LINE + LINE * k)?;
     }
-    let curve = Curve::new(&rectangles);
     curve.check()?;
     Ok(curve)
 }
@@ -90,9 +115,9 @@ pub fn curve_of(card: &[u8]) -> Result<Curve, Refusal> {
 #[cfg(test)]
 mod tests {
     use super::*;
-    use crate::examples::CARD;
+    use crate::programs::examples::CARD;
 
-    fn refused(card: &[u8]) -> (i64, i64) {
+    fn refused(card: &[u8]) -> (u32, usize) {
         let refusal = curve_of(card).unwrap_err();
         (refusal.number, refusal.place)
     }

@@ -1,17 +1,15 @@
 //! Cards, sound and damaged in many ways, and damage to any text.
 
 use crate::card::{card_of, line_of, COLUMN, FIRST_LINE, LINE};
-use crate::cases::{case, curve, spoil};
-use crate::model::MAX_DEGREE;
+use crate::draw::{curve, degree, spoil, TOO_FAR_FOR_A_CARD};
 use crate::rng::Rng;
-use crate::text::text_of;
 
 /// A card: sound, with a side too far or crossed, damaged once or twice, or no card at all.
 pub fn card(rng: &mut Rng) -> Vec<u8> {
-    let degree = any_degree(rng);
+    let degree = degree(rng);
     let mut drawn = curve(rng, degree);
     if rng.one_in(6) {
-        spoil(rng, &mut drawn);
+        spoil(rng, &mut drawn, &TOO_FAR_FOR_A_CARD);
     }
     let mut card = card_of(&drawn);
     match rng.below(13) {
@@ -30,21 +28,6 @@ pub fn card(rng: &mut Rng) -> Vec<u8> {
         _ => card = (0..rng.below(450)).map(|_| byte(rng)).collect(),
     }
     card
-}
-
-/// The text of three cases for `replay`, damaged once.
-pub fn cases_text(rng: &mut Rng) -> Vec<u8> {
-    let mut text = Vec::new();
-    for _ in 0..3 {
-        let degree = any_degree(rng);
-        text.extend(text_of(&case(rng, degree)));
-    }
-    damage(rng, &mut text);
-    text
-}
-
-fn any_degree(rng: &mut Rng) -> usize {
-    rng.between(1, MAX_DEGREE as i64) as usize
 }
 
 /// A byte changed, swapped, inserted or removed; the text cut short or made too long.

@@ -47,9 +47,9 @@ impl Ledger {
     fn entry(&self, t: Parameter) -> Entry {
         let upper = self
             .start
-            .times(&natural(t.den))
-            .plus(&self.width.times(&natural(t.num)));
-        let lower = self.lower.times(&natural(t.den));
+            .times(&t.den.into())
+            .plus(&self.width.times(&t.num.into()));
+        let lower = self.lower.times(&t.den.into());
         Entry {
             upper,
             lower,
@@ -62,12 +62,12 @@ impl Ledger {
         let Entry { upper, lower, .. } = self.entry(t);
         match kept {
             Kept::Left => {
-                self.start = self.start.times(&natural(t.den));
-                self.width = self.width.times(&natural(t.num));
+                self.start = self.start.times(&t.den.into());
+                self.width = self.width.times(&t.num.into());
             }
             Kept::Right => {
                 self.start = upper;
-                self.width = self.width.times(&natural(t.den - t.num));
+                self.width = self.width.times(&(t.den - t.num).into());
             }
         }
         self.lower = lower;
@@ -79,15 +79,11 @@ impl Ledger {
     }
 }
 
-fn natural(number: i64) -> Natural {
-    Natural::from(number as u64)
-}
-
 #[cfg(test)]
 mod tests {
     use super::*;
 
-    fn t(num: i64, den: i64) -> Parameter {
+    fn t(num: u32, den: u32) -> Parameter {
         Parameter { num, den }
     }
 

@@ -1,23 +1,35 @@
 //! The second program: document 01 written again in ordinary Rust, from the paper and not from the
-//! proved code, and what runs it beside the proved programs.
+//! proved code, and what runs it beside the proved library and the programs.
+#![forbid(unsafe_code)]
 
-pub mod call;
+// From the papers.
 pub mod card;
-pub mod card_program;
-pub mod cases;
 pub mod claim;
-pub mod coverage;
-pub mod damage;
-pub mod examples;
+pub mod door;
 pub mod ledger;
 pub mod model;
 pub mod natural;
-pub mod panel;
-pub mod parts;
-pub mod process;
-pub mod replay;
-pub mod rng;
 pub mod search;
-pub mod session;
+
+// What is drawn.
+pub mod call;
+pub mod damage;
+pub mod draw;
+pub mod given;
+pub mod rng;
+
+// What is compared.
+pub mod cards;
+pub mod lent;
+pub mod lists;
+pub mod panel;
+pub mod programs;
+pub mod trial;
+
+// What is counted.
+pub mod coverage;
+pub mod parts;
 pub mod tally;
-pub mod text;
+
+#[cfg(test)]
+mod faults;

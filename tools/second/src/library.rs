@@ -1,27 +1,15 @@
-//! The panel call of the proved static library (target/staticlib/libpanel.a), as Rust calls it.
+//! The proved library's calls.
 
-#[link(name = "panel", kind = "static")]
-extern "C" {
-    fn jusqani_panel(
-        card: *const u8,
-        card_len: usize,
-        num: u32,
-        den: u32,
-        out: *mut u8,
-        out_len: usize,
-    ) -> u32;
-}
+use jusqani::raw;
+use second::door::Door;
 
-pub fn panel(card: &[u8], num: u32, den: u32, buffer: &mut [u8]) -> u32 {
-    // Safe: both pointers come with their own lengths, and the library keeps neither.
-    unsafe {
-        jusqani_panel(
-            card.as_ptr(),
-            card.len(),
-            num,
-            den,
-            buffer.as_mut_ptr(),
-            buffer.len(),
-        )
-    }
-}
+pub const LIBRARY: Door = Door {
+    evaluate: raw::evaluate,
+    subdivide: raw::subdivide,
+    elevate: raw::elevate,
+    bounds: raw::bounds,
+    search: raw::search,
+    read_card: raw::read_card,
+    write_card: raw::write_card,
+    panel: raw::panel,
+};

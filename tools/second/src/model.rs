@@ -6,7 +6,7 @@ pub const MAX_SIDE: i64 = 16_777_216;
 pub const MAX_DEGREE: usize = 8;
 /// The places of a curve's record: one for each control point of the highest degree.
 pub const PLACES: usize = MAX_DEGREE + 1;
-pub const MAX_DEN: i64 = 65_536;
+pub const MAX_DEN: u32 = 65_536;
 
 /// Resistance low, resistance high, reactance low, reactance high.
 pub type Rectangle = [i64; 4];
@@ -21,20 +21,19 @@ pub struct Curve {
 /// The fraction num/den at which a curve is evaluated or subdivided.
 #[derive(Clone, Copy, PartialEq, Debug)]
 pub struct Parameter {
-    pub num: i64,
-    pub den: i64,
+    pub num: u32,
+    pub den: u32,
 }
 
 #[derive(Clone, Copy, PartialEq, Debug)]
 pub struct Refusal {
-    pub number: i64,
-    pub place: i64,
+    pub number: u32,
+    pub place: usize,
 }
 
 /// The refusal under its number, where the condition holds.
-pub fn refuse_if(condition: bool, number: i64, place: usize) -> Result<(), Refusal> {
+pub fn refuse_if(condition: bool, number: u32, place: usize) -> Result<(), Refusal> {
     if condition {
-        let place = place as i64;
         return Err(Refusal { number, place });
     }
     Ok(())
@@ -71,40 +70,29 @@ impl Curve {
         Ok(())
     }
 
-    /// De Casteljau's table: stage 0 is the control points, and each stage has the affine maps of the
-    /// neighbours in the stage before.
-    fn de_casteljau(&self, t: Parameter) -> Result<Vec<Vec<Rectangle>>, Refusal> {
-        self.check()?;
-        t.check()?;
-        let mut table = vec![self.control_points().to_vec()];
-        for stage in 0..self.degree {
-            let neighbours = table[stage].windows(2);
-            table.push(
-                neighbours
-                    .map(|pair| affine(t, &pair[0], &pair[1]))
-                    .collect(),
-            );
-        }
-        Ok(table)
-    }
-
     /// The load at a parameter (the paper's reading): what the last stage has left.
     pub fn evaluate(&self, t: Parameter) -> Result<Rectangle, Refusal> {
-        let table = self.de_casteljau(t)?;
-        Ok(table[self.degree][0])
+        let (left, _) = self.subdivide(t)?;
+        Ok(left.points[self.degree])
     }
 
-    /// The left piece and the right piece (the paper's cut): the first rectangle of each stage, and the
-    /// last of each stage from the last stage back.
+    /// The left piece and the right piece (the paper's cut): the first rectangle of each stage of de
+    /// Casteljau's table, and the last of each stage from the last stage back.
     pub fn subdivide(&self, t: Parameter) -> Result<(Curve, Curve), Refusal> {
-        let table = self.de_casteljau(t)?;
-        let left: Vec<Rectangle> = table.iter().map(|stage| stage[0]).collect();
-        let right: Vec<Rectangle> = table
-            .iter()
-            .rev()
-            .map(|stage| stage[stage.len() - 1])
-            .collect();
-        Ok((Curve::new(&left), Curve::new(&right)))
+        self.check()?;
+        t.check()?;
+        let n = self.degree;
+        let (mut left, mut right) = (*self, *self);
+        let mut stage = self.points;
+        for s in 1..=n {
+            // Stage s has the affine maps of the neighbours in the stage before, and ends at n - s.
+            for k in 0..=n - s {
+                stage[k] = affine(t, &stage[k], &stage[k + 1]);
+            }
+            left.points[s] = stage[0];
+            right.points[n - s] = stage[n - s];
+        }
+        Ok((left, right))
     }
 
     /// The same curve by control points of one degree more (the paper's raising).
@@ -125,10 +113,14 @@ impl Curve {
     /// The least rectangle that holds all control points (the paper's span).
     pub fn bounds(&self) -> Result<Rectangle, Refusal> {
         self.check()?;
-        let least = |side: usize| self.control_points().iter().map(move |r| r[side]).min();
-        let greatest = |side: usize| self.control_points().iter().map(move |r| r[side]).max();
-        let sides = [least(0), greatest(1), least(2), greatest(3)];
-        Ok(sides.map(|side| side.expect("a control point")))
+        let mut span = self.points[0];
+        for point in self.control_points() {
+            for low in [0, 2] {
+                span[low] = span[low].min(point[low]);
+                span[low + 1] = span[low + 1].max(point[low + 1]);
+            }
+        }
+        Ok(span)
     }
 }
 
@@ -152,7 +144,7 @@ pub fn low_above_high(rectangle: &Rectangle) -> bool {
 
 /// The affine map of two rectangles.
 fn affine(t: Parameter, a: &Rectangle, b: &Rectangle) -> Rectangle {
-    weighted(t.den - t.num, a, t.num, b)
+    weighted((t.den - t.num).into(), a, t.num.into(), b)
 }
 
 /// (p × a + q × b) / (p + q) of all four sides, rounded outward.
@@ -160,6 +152,28 @@ fn weighted(p: i64, a: &Rectangle, q: i64, b: &Rectangle) -> Rectangle {
     let low = |side: usize| (p * a[side] + q * b[side]).div_euclid(p + q);
     let high = |side: usize| -(-(p * a[side] + q * b[side])).div_euclid(p + q);
     [low(0), high(1), low(2), high(3)]
+}
+
+/// The four single-precision ohms of a load: each side's step count divided by 1,024.
+pub fn ohms(load: &Rectangle) -> [f32; 4] {
+    load.map(|side| f32::from_bits(ohm_bits(side)))
+}
+
+/// The bits of the single-precision number side / 1,024, for a side in range: a sign, eight bits of
+/// exponent with 127 added, and the 23 bits after the leading one. A zero has none of them set.
+fn ohm_bits(side: i64) -> u32 {
+    let size = side.unsigned_abs() as u32;
+    if size == 0 {
+        return 0;
+    }
+    let leading = size.ilog2();
+    let after = if leading > 23 {
+        size >> (leading - 23)
+    } else {
+        size << (23 - leading)
+    };
+    let sign = u32::from(side < 0);
+    (sign << 31) | ((leading - 10 + 127) << 23) | (after & 0x007f_ffff)
 }
 
 #[cfg(test)]
@@ -173,18 +187,15 @@ mod tests {
     }
 
     fn resistances(curve: &Curve) -> Vec<[i64; 2]> {
-        curve
-            .control_points()
-            .iter()
-            .map(|r| [r[0], r[1]])
-            .collect()
+        let points = curve.control_points().iter();
+        points.map(|r| [r[0], r[1]]).collect()
     }
 
-    fn at(num: i64, den: i64) -> Parameter {
+    fn at(num: u32, den: u32) -> Parameter {
         Parameter { num, den }
     }
 
-    fn number<T>(answer: Result<T, Refusal>) -> i64 {
+    fn number<T>(answer: Result<T, Refusal>) -> u32 {
         answer.err().map_or(0, |refusal| refusal.number)
     }
 
@@ -204,18 +215,15 @@ mod tests {
         let (left, right) = values(&[1, 0, 3]).subdivide(at(1, 2)).unwrap();
         assert_eq!(resistances(&left), [[1, 1], [0, 1], [0, 2]]);
         assert_eq!(resistances(&right), [[0, 2], [1, 2], [3, 3]]);
+        assert_eq!([left.points[3], right.points[3]], [[0; 4]; 2]);
     }
 
     #[test]
     fn elevates_rounding_once() {
-        assert_eq!(
-            resistances(&values(&[0, 1]).elevate().unwrap()),
-            [[0, 0], [0, 1], [1, 1]]
-        );
-        assert_eq!(
-            resistances(&values(&[0, 0, -1]).elevate().unwrap())[2],
-            [-1, 0]
-        );
+        let elevated = values(&[0, 1]).elevate().unwrap();
+        assert_eq!(resistances(&elevated), [[0, 0], [0, 1], [1, 1]]);
+        let elevated = values(&[0, 0, -1]).elevate().unwrap();
+        assert_eq!(resistances(&elevated)[2], [-1, 0]);
         assert_eq!(number(values(&[0; 9]).elevate()), 6);
     }
 
@@ -225,22 +233,11 @@ mod tests {
         assert_eq!(number(values(&[16_777_217, 0]).bounds()), 2);
         assert_eq!(number(values(&[-16_777_217, 0]).bounds()), 2);
         assert_eq!(number(Curve::ZERO.evaluate(at(1, 0))), 1);
+        let refused = |number, place| Err(Refusal { number, place });
         let both = Curve::new(&[[1, 0, 0, 0], [0, 0, 0, MAX_SIDE + 1]]);
-        assert_eq!(
-            both.evaluate(at(1, 0)),
-            Err(Refusal {
-                number: 2,
-                place: 1
-            })
-        );
+        assert_eq!(both.evaluate(at(1, 0)), refused(2, 1));
         let crossed = Curve::new(&[[0, 0, 0, 0], [0, 0, 0, 0], [0, 0, 1, 0]]);
-        assert_eq!(
-            crossed.subdivide(at(1, 0)),
-            Err(Refusal {
-                number: 3,
-                place: 2
-            })
-        );
+        assert_eq!(crossed.evaluate(at(1, 0)), refused(3, 2));
     }
 
     #[test]
@@ -255,6 +252,21 @@ mod tests {
         ];
         for (num, den, expected) in refused {
             assert_eq!(number(line.evaluate(at(num, den))), expected, "{num}/{den}");
+        }
+    }
+
+    #[test]
+    fn gives_ohms_with_nothing_lost() {
+        assert_eq!(
+            ohms(&[-1, 0, 1, 1_024]),
+            [-0.0009765625, 0.0, 0.0009765625, 1.0]
+        );
+        assert_eq!(ohm_bits(0), 0);
+        let near_ends = |end: i64| [end - 1, end].into_iter().flat_map(|side| [side, -side]);
+        let powers = (1..=24).flat_map(|power| near_ends(1 << power));
+        for side in powers.chain(-3_000..3_000).chain(16_770_000..MAX_SIDE) {
+            let exact = side as f64 / 1_024.0;
+            assert_eq!(f64::from(f32::from_bits(ohm_bits(side))), exact, "{side}");
         }
     }
 }

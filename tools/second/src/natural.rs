@@ -1,14 +1,14 @@
-//! Integer numbers of any size: as much of them as the ledger and the Bernstein sums need.
+//! Whole numbers of any size: as much of them as the ledger and the Bernstein sums need.
 
 use std::cmp::Ordering;
 
-/// Digits of 32 bits, least first; the last is not 0.
+/// Digits of 64 bits, least first; the last is not 0.
 #[derive(Clone, PartialEq, Eq, Debug)]
-pub struct Natural(Vec<u32>);
+pub struct Natural(Vec<u64>);
 
-impl From<u64> for Natural {
-    fn from(number: u64) -> Natural {
-        Natural(vec![number as u32, (number >> 32) as u32]).trimmed()
+impl From<u32> for Natural {
+    fn from(number: u32) -> Natural {
+        Natural(vec![number.into()]).trimmed()
     }
 }
 
@@ -21,30 +21,45 @@ impl Natural {
     }
 
     fn digit(&self, k: usize) -> u64 {
-        self.0.get(k).copied().unwrap_or(0).into()
+        self.0.get(k).copied().unwrap_or(0)
+    }
+
+    /// Adds factor × other.
+    fn add_product(&mut self, factor: u64, other: &Natural) {
+        if factor == 0 {
+            return;
+        }
+        let length = self.0.len().max(other.0.len() + 1);
+        self.0.resize(length, 0);
+        let mut carry = 0;
+        for (k, digit) in self.0.iter_mut().enumerate() {
+            let added = other.0.get(k).copied().unwrap_or(0);
+            carry += u128::from(*digit) + u128::from(factor) * u128::from(added);
+            *digit = carry as u64;
+            carry >>= 64;
+        }
+        self.0.push(carry as u64);
+        while self.0.last() == Some(&0) {
+            self.0.pop();
+        }
     }
 
     pub fn plus(&self, other: &Natural) -> Natural {
-        let length = self.0.len().max(other.0.len()) + 1;
-        let mut digits = Vec::with_capacity(length);
-        let mut carry = 0;
-        for k in 0..length {
-            carry += self.digit(k) + other.digit(k);
-            digits.push(carry as u32);
-            carry >>= 32;
-        }
-        Natural(digits).trimmed()
+        let mut sum = self.clone();
+        sum.add_product(1, other);
+        sum
     }
 
     /// The difference, for a number that is not below the other.
     pub fn minus(&self, other: &Natural) -> Natural {
         assert!(*self >= *other, "a difference below 0");
         let mut digits = Vec::with_capacity(self.0.len());
-        let mut borrow = 0;
+        let mut borrow = false;
         for k in 0..self.0.len() {
-            let taken = other.digit(k) + borrow;
-            borrow = u64::from(self.digit(k) < taken);
-            digits.push(((borrow << 32) + self.digit(k) - taken) as u32);
+            let (digit, below) = self.digit(k).overflowing_sub(other.digit(k));
+            let (digit, below_again) = digit.overflowing_sub(borrow.into());
+            borrow = below || below_again;
+            digits.push(digit);
         }
         Natural(digits).trimmed()
     }
@@ -54,11 +69,11 @@ impl Natural {
         for (i, a) in self.0.iter().enumerate() {
             let mut carry = 0;
             for (j, b) in other.0.iter().enumerate() {
-                carry += u64::from(digits[i + j]) + u64::from(*a) * u64::from(*b);
-                digits[i + j] = carry as u32;
-                carry >>= 32;
+                carry += u128::from(digits[i + j]) + u128::from(*a) * u128::from(*b);
+                digits[i + j] = carry as u64;
+                carry >>= 64;
             }
-            digits[i + other.0.len()] = carry as u32;
+            digits[i + other.0.len()] = carry as u64;
         }
         Natural(digits).trimmed()
     }
@@ -70,6 +85,25 @@ impl Natural {
             powers.push(powers[k].times(self));
         }
         powers
+    }
+
+    /// The quotient by a small number above 0, and the remainder.
+    pub fn divided_by(&self, divisor: u32) -> (Natural, u32) {
+        let divisor = u128::from(divisor);
+        let mut quotient = self.clone();
+        let mut remainder = 0;
+        for digit in quotient.0.iter_mut().rev() {
+            let part = (remainder << 64) + u128::from(*digit);
+            *digit = (part / divisor) as u64;
+            remainder = part % divisor;
+        }
+        (quotient.trimmed(), remainder as u32)
+    }
+
+    /// The number itself, where it is below 2^128.
+    pub fn small(&self) -> Option<u128> {
+        let whole = u128::from(self.digit(0)) + (u128::from(self.digit(1)) << 64);
+        (self.0.len() <= 2).then_some(whole)
     }
 }
 
@@ -103,21 +137,19 @@ impl Integer {
 
     /// A small number times a natural one.
     pub fn product(factor: i64, natural: &Natural) -> Integer {
-        let size = Natural::from(factor.unsigned_abs()).times(natural);
         let mut whole = Integer::zero();
-        if factor < 0 {
-            whole.taken = size;
-        } else {
-            whole.added = size;
-        }
+        whole.add_product(factor, natural);
         whole
     }
 
-    pub fn plus(&self, other: &Integer) -> Integer {
-        Integer {
-            added: self.added.plus(&other.added),
-            taken: self.taken.plus(&other.taken),
-        }
+    /// Adds a small number times a natural one.
+    pub fn add_product(&mut self, factor: i64, natural: &Natural) {
+        let side = if factor < 0 {
+            &mut self.taken
+        } else {
+            &mut self.added
+        };
+        side.add_product(factor.unsigned_abs(), natural);
     }
 
     pub fn at_most(&self, other: &Integer) -> bool {
@@ -131,9 +163,7 @@ mod tests {
     use crate::rng::Rng;
 
     fn natural(number: u128) -> Natural {
-        let high = Natural::from((number >> 64) as u64);
-        let two_to_64 = Natural::from(1 << 32).times(&Natural::from(1 << 32));
-        high.times(&two_to_64).plus(&Natural::from(number as u64))
+        Natural(vec![number as u64, (number >> 64) as u64]).trimmed()
     }
 
     #[test]
@@ -147,16 +177,29 @@ mod tests {
             assert_eq!(natural(product).plus(&natural(c)), natural(product + c));
             assert_eq!(natural(product + c).minus(&natural(c)), natural(product));
             assert_eq!(natural(product).cmp(&natural(c)), product.cmp(&c));
+            assert_eq!(natural(product).small(), Some(product));
+            let mut sum = natural(c);
+            sum.add_product(a as u64, &natural(b));
+            assert_eq!(sum, natural(product + c));
+            let small = b as u32 | 1;
+            let (quotient, remainder) = natural(product).divided_by(small);
+            assert_eq!(quotient, natural(product / u128::from(small)));
+            assert_eq!(u128::from(remainder), product % u128::from(small));
         }
     }
 
     #[test]
     fn carries_through_long_numbers() {
-        let powers = Natural::from(u64::MAX).powers(20);
-        let next = Natural::from(1).plus(&Natural::from(u64::MAX));
+        let most = natural(u64::MAX.into());
+        let powers = most.powers(20);
+        let next = most.plus(&Natural::from(1));
         let product = powers[19].times(&next);
         assert_eq!(product, powers[20].plus(&powers[19]));
         assert_eq!(product.minus(&powers[20]), powers[19]);
+        assert_eq!(powers[3].small(), None);
+        let mut sum = powers[19].clone();
+        sum.add_product(u64::MAX, &powers[19]);
+        assert_eq!(sum, product);
         assert_eq!(
             Natural::from(0).powers(1),
             [Natural::from(1), Natural::from(0)]
@@ -168,9 +211,11 @@ mod tests {
         for a in -3..=3 {
             for b in -3..=3 {
                 let one = Natural::from(1);
-                let (left, right) = (Integer::product(a, &one), Integer::product(b, &one));
+                let (mut left, right) = (Integer::product(a, &one), Integer::product(b, &one));
                 assert_eq!(left.at_most(&right), a <= b);
-                assert!(left.plus(&right).at_most(&Integer::product(a + b, &one)));
+                left.add_product(b, &one);
+                let sum = Integer::product(a + b, &one);
+                assert!(left.at_most(&sum) && sum.at_most(&left));
             }
         }
     }

@@ -1,111 +1,79 @@
-//! The panel call: what it must answer, and the comparison of the number and of every byte lent.
+//! The panel call beside the model, and beside the two calls that it stands for.
 
-use crate::card::curve_of;
-use crate::cases::parameter;
-use crate::coverage::count_panel;
-use crate::damage::card;
-use crate::model::{refuse_if, Parameter, Refusal};
-use crate::rng::Rng;
-use crate::tally::{visible, Tally};
+use crate::coverage::{Line, Row};
+use crate::damage;
+use crate::door::{curve_length, FOUR, MODEL, PANEL_BYTES};
+use crate::draw::parameter;
+use crate::lent::{Lent, BEHIND};
+use crate::model::{Parameter, MAX_DEGREE};
+use crate::tally::visible;
+use crate::trial::{Counted, Outcome, Trial, SHORT, SPARE};
 
-/// The panel call: a card's bytes, num, den and the buffer.
-pub type PanelCall = fn(&[u8], u32, u32, &mut [u8]) -> u32;
+const ROOM: usize = PANEL_BYTES + SPARE + BEHIND;
 
-/// The bytes of the answer: four sides of four bytes.
-const NEEDED: usize = 16;
+const PANEL: Counted = Counted {
+    row: Row::Panel,
+    numbers: Line::PanelNumbers,
+    lengths: &[Line::PanelOut],
+};
 
-/// The panel call as document 01 has it.
-pub fn answer(card: &[u8], num: u32, den: u32, buffer: &mut [u8]) -> u32 {
-    let t = Parameter {
-        num: num.into(),
-        den: den.into(),
-    };
-    read_into(card, t, buffer).map_or_else(|refusal| refusal.number as u32, |_| 0)
-}
-
-fn read_into(card: &[u8], t: Parameter, buffer: &mut [u8]) -> Result<(), Refusal> {
-    let sides = curve_of(card)?.evaluate(t)?;
-    refuse_if(buffer.len() < NEEDED, 12, NEEDED)?;
-    for (side, bytes) in sides.iter().zip(buffer.chunks_mut(4)) {
-        bytes.copy_from_slice(&(*side as i32).to_le_bytes());
-    }
-    Ok(())
-}
-
-/// The longest buffer lent, and the bytes behind it, where nothing may be written either.
-const LONGEST: usize = 20;
-const BEHIND: usize = 12;
-
-pub const ROW: &str = "panel call";
-
-/// Compares one call: the number, every byte of the buffer, and the bytes behind it.
-pub fn compare(call: PanelCall, rng: &mut Rng, tally: &mut Tally) -> Result<(), String> {
-    let card = card(rng);
-    let t = parameter(rng);
-    let (num, den) = (t.num as u32, t.den as u32);
-    let length = buffer_length(rng);
-    let filled: [u8; LONGEST + BEHIND] = std::array::from_fn(|_| rng.draw() as u8);
-    let (mut expected, mut came) = (filled, filled);
-    let expected_number = answer(&card, num, den, &mut expected[..length]);
-    let number = call(&card, num, den, &mut came[..length]);
-    count_panel(&card, t, length, expected_number.into(), tally);
-    let agrees = number == expected_number && came == expected;
-    tally.compare(ROW, agrees, || {
-        let given = format!(
-            "the answer differs\ncard of {} bytes\n{}{num}/{den}",
+/// Compares one call on a card, sound or damaged: the number and every byte of the buffer and behind it.
+pub fn compare(trial: &mut Trial) -> Result<(), String> {
+    let card = damage::card(trial.rng);
+    let t = parameter(trial.rng);
+    let Parameter { num, den } = t;
+    let mut out: Lent<u8, ROOM> = trial.lend("out", PANEL_BYTES);
+    let expected = (MODEL.panel)(&card, num, den, out.expected());
+    let came = (trial.door.panel)(&card, num, den, out.came());
+    let answers = [expected, came].map(u64::from);
+    let input = || {
+        format!(
+            "card of {} bytes\n{}at {num}/{den}",
             card.len(),
             visible(&card)
-        );
-        let lent = format!("buffer of {length} bytes, filled\n{filled:?}");
+        )
+    };
+    let outcome = trial.finish(&PANEL, answers, PANEL_BYTES, &[&out], input)?;
+    if outcome.is_ok() {
+        trial.count_parameter(Line::PanelAt, t);
+    }
+    compare_by_calls(trial, &card, t, outcome.map(|()| sides_in(out.left())))
+}
+
+/// The four sides in the panel call's bytes.
+fn sides_in(out: &[u8]) -> [i32; FOUR] {
+    std::array::from_fn(|side| i32::from_le_bytes(std::array::from_fn(|byte| out[4 * side + byte])))
+}
+
+/// Reads the card and evaluates its curve by the library's own calls, with buffers long enough: the
+/// same sides or the same number must come, unless only the panel call's buffer was too short.
+fn compare_by_calls(
+    trial: &mut Trial,
+    card: &[u8],
+    t: Parameter,
+    panel: Outcome<[i32; FOUR]>,
+) -> Result<(), String> {
+    let by_calls = by_calls(trial, card, t);
+    let same = by_calls == panel || (by_calls.is_ok() && panel == Err(SHORT));
+    trial.tally.compare(Row::PanelAgain, same, || {
         format!(
-            "{given}, {lent}\nexpected {expected_number}\n{expected:?}\ncame {number}\n{came:?}"
+            "{}{t:?}\npanel {panel:?}\nread_card and evaluate {by_calls:?}",
+            visible(card)
         )
     })
 }
 
-/// A length from 0 to the longest; every other one is drawn from those that the answer fits in.
-fn buffer_length(rng: &mut Rng) -> usize {
-    let shortest = rng.pick(&[0, NEEDED]);
-    shortest + rng.below((LONGEST + 1 - shortest) as u64) as usize
-}
-
-#[cfg(test)]
-mod tests {
-    use super::*;
-    use crate::examples::CARD;
-
-    #[test]
-    fn writes_the_first_16_bytes() {
-        let mut buffer = [7; 20];
-        assert_eq!(answer(CARD, 1, 2, &mut buffer), 0);
-        let sides = [0, 0, 0, 0, 2, 0, 0, 0, 254, 255, 255, 255, 0, 0, 0, 0];
-        assert_eq!((&buffer[..16], &buffer[16..]), (&sides[..], &[7; 4][..]));
-    }
-
-    #[test]
-    fn tries_the_buffer_last() {
-        let mut buffer = [7; 15];
-        assert_eq!(answer(CARD, 1, 2, &mut buffer), 12);
-        assert_eq!(answer(CARD, 1, 0, &mut buffer), 4);
-        assert_eq!(answer(CARD, 3, 2, &mut buffer), 5);
-        assert_eq!(answer(&CARD[..92], 3, 2, &mut buffer), 10);
-        assert_eq!(buffer, [7; 15]);
-    }
-
-    #[test]
-    fn agrees_with_itself_and_finds_a_wrong_byte() {
-        let (mut rng, mut tally) = (Rng::new(6), Tally::default());
-        for _ in 0..20_000 {
-            compare(answer, &mut rng, &mut tally).unwrap();
-        }
-        assert_eq!(tally.agreed(Some(ROW)), [20_000, 20_000]);
-        let wrong: PanelCall = |card, num, den, buffer| {
-            let number = answer(card, num, den, buffer);
-            if let (5, Some(last)) = (number, buffer.last_mut()) {
-                *last ^= 1;
-            }
-            number
-        };
-        assert!((0..1_000).any(|_| compare(wrong, &mut rng, &mut tally).is_err()));
-    }
+fn by_calls(trial: &Trial, card: &[u8], t: Parameter) -> Outcome<[i32; FOUR]> {
+    let accepted = |answer: u64| match answer as u32 {
+        0 => Ok(()),
+        number => Err(number),
+    };
+    let mut curve = [0; curve_length(MAX_DEGREE)];
+    accepted((trial.door.read_card)(card, &mut curve))?;
+    let (mut load, mut ohms) = ([0; FOUR], [0.0; FOUR]);
+    let (degree, sides) = (curve[0] as u32, &curve[1..]);
+    accepted((trial.door.evaluate)(
+        degree, sides, t.num, t.den, &mut load, &mut ohms,
+    ))?;
+    Ok(load)
 }

@@ -32,7 +32,7 @@ pub fn in_parts(
                 failure.lock().unwrap().get_or_insert(message);
             }
         }
-        shared.lock().unwrap().add(own);
+        shared.lock().unwrap().add(&own);
     };
     std::thread::scope(|scope| {
         for _ in 0..THREADS {
@@ -50,27 +50,28 @@ fn rng_of(kind: u64, part: usize) -> Rng {
 #[cfg(test)]
 mod tests {
     use super::*;
+    use crate::coverage::{Line, Row};
 
     #[test]
     fn does_every_part_once() {
         let mut tally = Tally::default();
         let done = in_parts(0, 100, &mut tally, |part, _, tally| {
-            tally.cover("parts", part as i64);
-            tally.compare("part", true, String::new)
+            tally.cover(Line::Degrees, part);
+            tally.compare(Row::Bounds, true, String::new)
         });
         assert_eq!(done, Ok(()));
-        assert_eq!(tally.agreed(None), [100, 100]);
-        assert_eq!(tally.require("parts", 0..100, 1), Ok(()));
+        assert_eq!(tally.agreed(Row::Bounds), [100, 100]);
+        assert!((0..100).all(|part| tally.covered(Line::Degrees, part) == 1));
     }
 
     #[test]
     fn hands_back_a_failure() {
         let mut tally = Tally::default();
         let done = in_parts(0, 100, &mut tally, |part, _, tally| {
-            tally.compare("part", part != 7, || "seven".to_string())
+            tally.compare(Row::Bounds, part != 7, || "seven".to_string())
         });
-        assert_eq!(done, Err("a disagreement, part: seven".to_string()));
-        let [ran, agreed] = tally.agreed(None);
+        assert_eq!(done, Err("a disagreement, bounds\nseven".to_string()));
+        let [ran, agreed] = tally.agreed(Row::Bounds);
         assert_eq!(ran, agreed + 1);
     }
 

@@ -16,12 +16,18 @@ impl Rng {
         mixed ^ (mixed >> 31)
     }
 
+    /// A number from 0 to just below the bound: the drawn number over 2^64, times the bound.
     pub fn below(&mut self, bound: u64) -> u64 {
-        self.draw() % bound
+        ((u128::from(self.draw()) * u128::from(bound)) >> 64) as u64
     }
 
     pub fn between(&mut self, low: i64, high: i64) -> i64 {
         low + self.below((high - low + 1) as u64) as i64
+    }
+
+    /// A length or an index from 0 to the last.
+    pub fn up_to(&mut self, last: usize) -> usize {
+        self.below(last as u64 + 1) as usize
     }
 
     pub fn one_in(&mut self, times: u64) -> bool {
@@ -49,6 +55,19 @@ mod tests {
                 3_203_168_211_198_807_973,
                 9_817_491_932_198_370_423
             ]
+        );
+    }
+
+    #[test]
+    fn draws_every_number_between() {
+        let mut rng = Rng::new(1);
+        let mut came = [0; 7];
+        for _ in 0..7_000 {
+            came[(rng.between(-3, 3) + 3) as usize] += 1;
+        }
+        assert!(
+            came.iter().all(|times| (800..1_200).contains(times)),
+            "{came:?}"
         );
     }
 }

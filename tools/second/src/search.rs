@@ -3,31 +3,31 @@
 
 use crate::model::{low_above_high, out_of_range, refuse_if, Curve, Parameter, Rectangle, Refusal};
 
-const MAX_DEPTH: i64 = 12;
-const MAX_BUDGET: i64 = 8_191;
+pub const MAX_DEPTH: u32 = 12;
+pub const MAX_BUDGET: u32 = 8_191;
 const MIDDLE: Parameter = Parameter { num: 1, den: 2 };
 
 /// How a search ends. Depth and index name a piece.
 #[derive(Clone, Copy, PartialEq, Debug)]
 pub enum Verdict {
     Inside,
-    Outside { depth: i64, index: i64 },
+    Outside { depth: u32, index: u32 },
     Spent,
-    Undecided { depth: i64, index: i64 },
+    Undecided { depth: u32, index: u32 },
 }
 
 /// What a search is given beside the curve: the box, the depth limit and the budget of pieces.
 #[derive(Clone, Copy, PartialEq, Debug)]
 pub struct Search {
     pub limits: Rectangle,
-    pub depth: i64,
-    pub budget: i64,
+    pub depth: u32,
+    pub budget: u32,
 }
 
 struct Piece {
     curve: Curve,
-    depth: i64,
-    index: i64,
+    depth: u32,
+    index: u32,
 }
 
 impl Piece {
@@ -44,8 +44,18 @@ impl Piece {
 }
 
 impl Search {
-    /// The verdict and the number of pieces looked at.
-    pub fn over(&self, curve: &Curve) -> Result<(Verdict, i64), Refusal> {
+    /// The verdict's number, the depth and the index of its piece, and the number of pieces looked at.
+    pub fn over(&self, curve: &Curve) -> Result<[u32; 4], Refusal> {
+        let (verdict, count) = self.verdict(curve)?;
+        Ok(match verdict {
+            Verdict::Inside => [1, 0, 0, count],
+            Verdict::Outside { depth, index } => [2, depth, index, count],
+            Verdict::Spent => [3, 0, 0, count],
+            Verdict::Undecided { depth, index } => [4, depth, index, count],
+        })
+    }
+
+    fn verdict(&self, curve: &Curve) -> Result<(Verdict, u32), Refusal> {
         curve.check()?;
         let no_box = out_of_range(&self.limits) || low_above_high(&self.limits);
         refuse_if(no_box, 7, 0)?;
@@ -58,7 +68,7 @@ impl Search {
         })
     }
 
-    fn all_pieces(&self, whole: Piece) -> Result<(Verdict, i64), Refusal> {
+    fn all_pieces(&self, whole: Piece) -> Result<(Verdict, u32), Refusal> {
         let mut due = vec![whole];
         let mut count = 0;
         let mut noted = None;
@@ -98,7 +108,7 @@ mod tests {
     use super::*;
 
     /// Resistance values 0, 4 and reactance values 0, 0.
-    fn searched(limits: Rectangle, depth: i64, budget: i64) -> Result<(Verdict, i64), Refusal> {
+    fn searched(limits: Rectangle, depth: u32, budget: u32) -> Result<[u32; 4], Refusal> {
         let curve = Curve::new(&[[0; 4], [4, 4, 0, 0]]);
         Search {
             limits,
@@ -111,16 +121,10 @@ mod tests {
     #[test]
     fn ends_as_the_examples_say() {
         let half = [0, 2, 0, 0];
-        assert_eq!(
-            searched(half, 2, 5),
-            Ok((Verdict::Outside { depth: 2, index: 3 }, 5))
-        );
-        assert_eq!(searched(half, 2, 4), Ok((Verdict::Spent, 4)));
-        assert_eq!(
-            searched(half, 1, 5),
-            Ok((Verdict::Undecided { depth: 1, index: 1 }, 3))
-        );
-        assert_eq!(searched([0, 4, 0, 0], 12, 8_191), Ok((Verdict::Inside, 1)));
+        assert_eq!(searched(half, 2, 5), Ok([2, 2, 3, 5]));
+        assert_eq!(searched(half, 2, 4), Ok([3, 0, 0, 4]));
+        assert_eq!(searched(half, 1, 5), Ok([4, 1, 1, 3]));
+        assert_eq!(searched([0, 4, 0, 0], 12, 8_191), Ok([1, 0, 0, 1]));
     }
 
     #[test]
@@ -141,10 +145,6 @@ mod tests {
             depth: 12,
             budget: 8_191,
         };
-        let first = Verdict::Undecided {
-            depth: 12,
-            index: 0,
-        };
-        assert_eq!(search.over(&curve), Ok((first, 8_191)));
+        assert_eq!(search.over(&curve), Ok([4, 12, 0, 8_191]));
     }
 }

@@ -1,133 +1,142 @@
-//! What was compared, how many comparisons agreed, and what the cases covered. All that is printed at
-//! the end is counted here.
+//! What was compared, how many comparisons agreed, and what they covered. All that is printed and
+//! required at the end is counted here.
 
-use std::collections::BTreeMap;
-use std::fmt;
-
-/// One of the values that a line of the coverage counts.
-#[derive(Clone, Copy, PartialEq, Eq, PartialOrd, Ord, Debug)]
-pub enum Value {
-    Number(i64),
-    Word(&'static str),
-}
-
-impl From<i64> for Value {
-    fn from(number: i64) -> Value {
-        Value::Number(number)
-    }
-}
-
-impl From<&'static str> for Value {
-    fn from(word: &'static str) -> Value {
-        Value::Word(word)
-    }
-}
-
-impl fmt::Display for Value {
-    fn fmt(&self, f: &mut fmt::Formatter) -> fmt::Result {
-        match self {
-            Value::Number(number) => write!(f, "{number}"),
-            Value::Word(word) => write!(f, "{word}"),
-        }
-    }
-}
+use crate::coverage::{Line, Row, Values, GROUPS, ROWS};
 
 #[derive(Default)]
 pub struct Tally {
-    compared: BTreeMap<&'static str, [u64; 2]>,
-    covered: BTreeMap<&'static str, BTreeMap<Value, u64>>,
+    compared: Vec<[u64; 2]>,
+    covered: Vec<Vec<u64>>,
 }
+
+/// The counter of an index, made where there is none yet.
+fn counter<T: Clone + Default>(counters: &mut Vec<T>, index: usize) -> &mut T {
+    if index >= counters.len() {
+        counters.resize(index + 1, T::default());
+    }
+    &mut counters[index]
+}
+
+/// A line with more values than this is printed by its least count alone.
+const PRINTED: usize = 42;
 
 impl Tally {
     /// Counts one comparison. A disagreement is told by the message.
     pub fn compare(
         &mut self,
-        what: &'static str,
+        row: Row,
         agrees: bool,
         message: impl FnOnce() -> String,
     ) -> Result<(), String> {
-        let [ran, agreed] = self.compared.entry(what).or_default();
+        let [ran, agreed] = counter(&mut self.compared, row as usize);
         *ran += 1;
         if !agrees {
-            return Err(format!("a disagreement, {what}: {}", message()));
+            let (_, name, _) = ROWS[row as usize];
+            return Err(format!("a disagreement, {name}\n{}", message()));
         }
         *agreed += 1;
         Ok(())
     }
 
     /// Counts a value that came, as a refusal number, a degree or a buffer's length.
-    pub fn cover(&mut self, what: &'static str, value: impl Into<Value>) {
-        let values = self.covered.entry(what).or_default();
-        *values.entry(value.into()).or_default() += 1;
+    pub fn cover(&mut self, line: Line, value: usize) {
+        *counter(counter(&mut self.covered, line as usize), value) += 1;
     }
 
-    pub fn add(&mut self, other: Tally) {
-        for (what, [ran, agreed]) in other.compared {
-            let row = self.compared.entry(what).or_default();
-            *row = [row[0] + ran, row[1] + agreed];
+    pub fn add(&mut self, other: &Tally) {
+        for (row, [ran, agreed]) in other.compared.iter().enumerate() {
+            let sum = counter(&mut self.compared, row);
+            *sum = [sum[0] + ran, sum[1] + agreed];
         }
-        for (what, counts) in other.covered {
-            let values = self.covered.entry(what).or_default();
-            for (value, count) in counts {
-                *values.entry(value).or_default() += count;
+        for (line, counts) in other.covered.iter().enumerate() {
+            let sums = counter(&mut self.covered, line);
+            for (value, count) in counts.iter().enumerate() {
+                *counter(sums, value) += count;
             }
         }
     }
 
-    /// Fails where one of these values came less often than it must.
-    pub fn require<V: Into<Value>>(
-        &self,
-        what: &'static str,
-        values: impl IntoIterator<Item = V>,
-        least: u64,
-    ) -> Result<(), String> {
-        for value in values.into_iter().map(V::into) {
-            let count = self.covered.get(what).and_then(|counts| counts.get(&value));
-            let count = count.copied().unwrap_or(0);
-            if count < least {
-                return Err(format!(
-                    "too few cases, {what}: {value} came {count} times, needed {least}"
-                ));
+    /// How many comparisons of a row were run and how many agreed.
+    pub fn agreed(&self, row: Row) -> [u64; 2] {
+        self.compared.get(row as usize).copied().unwrap_or_default()
+    }
+
+    /// How often a value came.
+    pub fn covered(&self, line: Line, value: usize) -> u64 {
+        let counts = self.covered.get(line as usize);
+        counts.and_then(|c| c.get(value)).copied().unwrap_or(0)
+    }
+
+    /// Fails where a run compared or covered less than it must.
+    pub fn require_all(&self) -> Result<(), String> {
+        for (row, name, least) in ROWS {
+            let [_, agreed] = self.agreed(row);
+            if agreed < least {
+                return Err(format!("too few, {name}: {agreed} agreed, needed {least}"));
+            }
+        }
+        for (group, lines) in GROUPS {
+            for (line, what, values, least) in lines {
+                self.require(*line, *values, *least)
+                    .map_err(|few| format!("too few, {group}, {what}: {few}"))?;
             }
         }
         Ok(())
     }
 
-    /// Fails where fewer comparisons of a row agreed than must.
-    pub fn require_agreed(&self, row: &'static str, least: u64) -> Result<(), String> {
-        match self.agreed(Some(row)) {
-            [_, agreed] if agreed < least => Err(format!(
-                "too few cases, {row}: {agreed} agreed, needed {least}"
-            )),
-            _ => Ok(()),
+    fn require(&self, line: Line, values: Values, least: u64) -> Result<(), String> {
+        for (value, name) in values.named() {
+            let count = self.covered(line, value);
+            if count < least {
+                return Err(format!("{name} came {count} times, needed {least}"));
+            }
         }
-    }
-
-    /// How many comparisons of a row, or of all rows, were run and how many agreed.
-    pub fn agreed(&self, what: Option<&'static str>) -> [u64; 2] {
-        let rows = self.compared.iter();
-        let rows = rows.filter(|(row, _)| what.is_none_or(|what| **row == what));
-        rows.fold([0, 0], |sum, (_, row)| [sum[0] + row[0], sum[1] + row[1]])
+        Ok(())
     }
 
     pub fn print(&self) {
-        println!("{:<34}{:>10}{:>10}", "compared", "ran", "agreed");
-        for (what, [ran, agreed]) in &self.compared {
-            println!("{what:<34}{ran:>10}{agreed:>10}");
+        println!("{:<32}{:>10}{:>10}", "compared", "ran", "agreed");
+        for (row, name, _) in ROWS {
+            let [ran, agreed] = self.agreed(row);
+            println!("{name:<32}{ran:>10}{agreed:>10}");
         }
-        for (what, counts) in &self.covered {
-            let counts = counts
-                .iter()
-                .map(|(value, count)| format!("{value}: {count}"));
-            println!("{what}: {}", counts.collect::<Vec<_>>().join(", "));
+        for (group, lines) in GROUPS {
+            for (line, what, values, _) in lines {
+                println!("{group}, {what}: {}", self.counts(*line, *values));
+            }
         }
+    }
+
+    fn counts(&self, line: Line, values: Values) -> String {
+        let named = values.named();
+        let count = |value: &usize| self.covered(line, *value);
+        if named.len() > PRINTED {
+            let least = named.iter().map(|(value, _)| count(value)).min();
+            let [(_, first), .., (_, last)] = &named[..] else {
+                unreachable!("more than {PRINTED} values")
+            };
+            return format!(
+                "{first} to {last}, each at least {} times",
+                least.unwrap_or(0)
+            );
+        }
+        let counted = named
+            .iter()
+            .map(|(value, name)| format!("{name}: {}", count(value)));
+        counted.collect::<Vec<_>>().join(", ")
+    }
+
+    /// How many comparisons of all rows were run and how many agreed.
+    pub fn all_agreed(&self) -> [u64; 2] {
+        let rows = self.compared.iter();
+        rows.fold([0, 0], |sum, row| [sum[0] + row[0], sum[1] + row[1]])
     }
 }
 
-/// The message of a disagreement.
+/// The message of a disagreement about bytes.
 pub fn disagreement(given: &[u8], expected: &[u8], came: &[u8]) -> String {
     let [given, expected, came] = [given, expected, came].map(visible);
-    format!("the answer differs\ngiven\n{given}expected\n{expected}came\n{came}")
+    format!("given\n{given}expected\n{expected}came\n{came}")
 }
 
 /// Bytes as text, a line to each line, every byte to be seen.
@@ -145,36 +154,38 @@ mod tests {
     #[test]
     fn stops_at_a_disagreement() {
         let mut tally = Tally::default();
-        assert_eq!(tally.compare("row", true, String::new), Ok(()));
+        assert_eq!(tally.compare(Row::Bounds, true, String::new), Ok(()));
         assert_eq!(
-            tally.compare("row", false, || "why".to_string()),
-            Err("a disagreement, row: why".to_string())
+            tally.compare(Row::Bounds, false, || "why".to_string()),
+            Err("a disagreement, bounds\nwhy".to_string())
         );
-        assert_eq!(tally.agreed(Some("row")), [2, 1]);
-        assert_eq!(tally.agreed(Some("another")), [0, 0]);
-        assert_eq!(tally.require_agreed("row", 1), Ok(()));
-        assert!(tally.require_agreed("row", 2).is_err());
-        assert_eq!(tally.agreed(None), [2, 1]);
+        assert_eq!(tally.agreed(Row::Bounds), [2, 1]);
+        assert_eq!(tally.agreed(Row::Search), [0, 0]);
+        assert_eq!(tally.all_agreed(), [2, 1]);
     }
 
     #[test]
     fn requires_every_value() {
         let (mut tally, mut other) = (Tally::default(), Tally::default());
-        tally.cover("degrees", 1);
-        other.cover("degrees", 1);
-        other.cover("degrees", 2);
-        tally.add(other);
-        assert_eq!(tally.require("degrees", [1, 2], 1), Ok(()));
-        assert_eq!(tally.require("degrees", [1], 2), Ok(()));
-        assert!(tally.require("degrees", [1, 2], 2).is_err());
-        assert!(tally.require("degrees", [3], 1).is_err());
-        assert!(tally.require("words", ["one"], 1).is_err());
+        tally.cover(Line::Degrees, 1);
+        other.cover(Line::Degrees, 1);
+        other.cover(Line::Degrees, 2);
+        tally.add(&other);
+        let one_and_two = Values::Span(1, 2);
+        assert_eq!(tally.require(Line::Degrees, one_and_two, 1), Ok(()));
+        assert_eq!(tally.require(Line::Degrees, Values::These(&[1]), 2), Ok(()));
+        assert!(tally.require(Line::Degrees, one_and_two, 2).is_err());
+        assert!(tally
+            .require(Line::Degrees, Values::These(&[3]), 1)
+            .is_err());
+        assert_eq!(tally.counts(Line::Degrees, one_and_two), "1: 2, 2: 1");
+        assert!(tally.require_all().is_err());
     }
 
     #[test]
     fn shows_every_byte() {
         let came = [b" 1\n".as_slice(), b"\t\xff"].concat();
-        let message = "the answer differs\ngiven\nexpected\n 2\\n\ncame\n 1\\n\n\\t\\xff\n";
+        let message = "given\nexpected\n 2\\n\ncame\n 1\\n\n\\t\\xff\n";
         assert_eq!(disagreement(b"", b" 2\n", &came), message);
     }
 }

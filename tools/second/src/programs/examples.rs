@@ -2,9 +2,6 @@
 //! along its limits, worked by hand. A stroke ends a line; the numbers are set into columns.
 
 use crate::card::line_of;
-use crate::process::run;
-use crate::tally::{disagreement, Tally};
-use std::path::Path;
 
 /// The card of document 01, and what the program `card` prints for it.
 pub const CARD: &[u8] = b"         1
@@ -84,29 +81,23 @@ fn text_of(lines: &str) -> Vec<u8> {
         .collect()
 }
 
-pub fn compare(program: &Path, tally: &mut Tally) -> Result<(), String> {
-    for (given, answers) in EXAMPLES {
-        let (given, expected) = (text_of(given), text_of(answers));
-        let came = run(program, &given)?;
-        tally.compare(
-            "replay, examples of document 01",
-            came.is(&expected),
-            || disagreement(&given, &expected, &came.bytes),
-        )?;
-    }
-    Ok(())
+/// Each example's text and its answers.
+pub fn texts() -> impl Iterator<Item = (Vec<u8>, Vec<u8>)> {
+    EXAMPLES
+        .iter()
+        .map(|(given, answers)| (text_of(given), text_of(answers)))
 }
 
 #[cfg(test)]
 mod tests {
     use super::*;
-    use crate::text::answers_to;
+    use crate::programs::text::{answers_to, Answers};
 
     #[test]
     fn come_out_as_the_paper_says() {
-        for (given, answers) in EXAMPLES {
-            let came = String::from_utf8(answers_to(&text_of(given)).lines).unwrap();
-            assert_eq!(came.into_bytes(), text_of(answers), "{given}");
+        for (given, lines) in texts() {
+            let fault = None;
+            assert_eq!(answers_to(&given, false), Answers { lines, fault });
         }
     }
 }
