@@ -1,12 +1,15 @@
 //! Times our evaluate and subdivide beside plain Rust: one process, the same inputs of degree 8, rounds
 //! in turn. It prints the median time of a call on each side, and the median and the middle half of the
 //! ratios, ours to plain.
+#![forbid(unsafe_code)]
 
-mod ours;
+mod calls;
 mod plain;
 
-use second::cases::curve;
-use second::model::{MAX_DEGREE, MAX_DEN, PLACES};
+use calls::{Buffers, Call, Input, Operation, CURVE_SIDES, EVALUATE, SUBDIVIDE};
+use jusqani::{MAX_DEGREE, MAX_DEN};
+use second::draw::curve;
+use second::given::Given;
 use second::rng::Rng;
 use std::hint::black_box;
 use std::process::ExitCode;
@@ -19,30 +22,17 @@ const INPUTS: usize = 256;
 const TIMES: usize = 2;
 const ROUNDS: usize = 2_001;
 
-/// The sides of a rectangle, of a curve of the highest degree, and of the two pieces of one.
-const RECT_SIDES: usize = 4;
-const CURVE_SIDES: usize = RECT_SIDES * PLACES;
-const PIECES_SIDES: usize = 2 * CURVE_SIDES;
-
-/// What both sides are given.
-struct Input {
-    sides: Vec<i32>,
-    num: u32,
-    den: u32,
-}
-
-type Operation = fn(&[i32], u32, u32, &mut [i32]) -> u32;
-
 fn main() -> ExitCode {
     let mut rng = Rng::new(SEED);
     let inputs: Vec<Input> = (0..INPUTS).map(|_| input(&mut rng)).collect();
     println!(
-        "degree {MAX_DEGREE}, {INPUTS} inputs, {ROUNDS} rounds of {TIMES} times all inputs; the result's \
-         buffer is used again and not cleared"
+        "degree {MAX_DEGREE}, {INPUTS} inputs, {ROUNDS} rounds of {TIMES} times all inputs; the results' \
+         buffers are used again and not cleared"
     );
-    let evaluate = side_by_side("evaluate", plain::evaluate, ours::evaluate, &inputs);
-    let subdivide = side_by_side("subdivide", plain::subdivide, ours::subdivide, &inputs);
-    match evaluate.and(subdivide) {
+    let ended = [EVALUATE, SUBDIVIDE]
+        .iter()
+        .try_for_each(|operation| side_by_side(operation, &inputs));
+    match ended {
         Ok(()) => ExitCode::SUCCESS,
         Err(message) => {
             println!("FAILED: {message}");
@@ -53,35 +43,29 @@ fn main() -> ExitCode {
 
 /// An accepted curve and an accepted parameter.
 fn input(rng: &mut Rng) -> Input {
-    let points = curve(rng, MAX_DEGREE).points;
-    let den = rng.between(1, MAX_DEN);
+    let given = Given::exact(&curve(rng, MAX_DEGREE as usize));
+    let den = rng.between(1, MAX_DEN.into());
     Input {
-        sides: points.iter().flatten().map(|side| *side as i32).collect(),
+        sides: std::array::from_fn::<i32, CURVE_SIDES, _>(|side| given.sides()[side]),
         num: rng.between(0, den) as u32,
         den: den as u32,
     }
 }
 
 /// Whether both sides accept every input and give the same sides.
-fn agree(one: Operation, other: Operation, inputs: &[Input]) -> bool {
-    inputs.iter().all(|Input { sides, num, den }| {
-        let (mut a, mut b) = ([0; PIECES_SIDES], [0; PIECES_SIDES]);
-        let numbers = [
-            one(sides, *num, *den, &mut a),
-            other(sides, *num, *den, &mut b),
-        ];
-        numbers == [0, 0] && a == b
+fn agree(operation: &Operation, inputs: &[Input]) -> bool {
+    let Operation { ours, plain, .. } = operation;
+    inputs.iter().all(|input| {
+        let mut buffers = Buffers::EMPTY;
+        let answers = [ours, plain].map(|call| (call.run)(input, &mut buffers));
+        answers == [0, 0] && (ours.sides)(&buffers) == (plain.sides)(&buffers)
     })
 }
 
 /// Times one operation on both sides, each going first in every other round.
-fn side_by_side(
-    name: &str,
-    plain: Operation,
-    ours: Operation,
-    inputs: &[Input],
-) -> Result<(), String> {
-    if !agree(plain, ours, inputs) {
+fn side_by_side(operation: &Operation, inputs: &[Input]) -> Result<(), String> {
+    let Operation { name, ours, plain } = operation;
+    if !agree(operation, inputs) {
         return Err(format!("{name}: the results differ"));
     }
     let (mut plain_times, mut our_times, mut ratios) = (Vec::new(), Vec::new(), Vec::new());
@@ -106,17 +90,12 @@ fn side_by_side(
 }
 
 /// Nanoseconds for one call.
-fn timed(operation: Operation, inputs: &[Input]) -> f64 {
-    let mut out = [0; PIECES_SIDES];
+fn timed(call: &Call, inputs: &[Input]) -> f64 {
+    let mut buffers = Buffers::EMPTY;
     let begun = Instant::now();
     for _ in 0..TIMES {
-        for Input { sides, num, den } in inputs {
-            black_box(operation(
-                black_box(sides),
-                black_box(*num),
-                black_box(*den),
-                black_box(&mut out),
-            ));
+        for input in inputs {
+            black_box((call.run)(black_box(input), black_box(&mut buffers)));
         }
     }
     begun.elapsed().as_nanos() as f64 / (TIMES * inputs.len()) as f64
@@ -126,4 +105,22 @@ fn timed(operation: Operation, inputs: &[Input]) -> f64 {
 fn quartiles(mut times: Vec<f64>) -> [f64; 3] {
     times.sort_by(f64::total_cmp);
     [1, 2, 3].map(|quarter| times[(times.len() - 1) * quarter / 4])
+}
+
+#[cfg(test)]
+mod tests {
+    use super::*;
+
+    #[test]
+    fn times_calls_that_agree() {
+        let mut rng = Rng::new(SEED);
+        let inputs: Vec<Input> = (0..INPUTS).map(|_| input(&mut rng)).collect();
+        assert!(agree(&EVALUATE, &inputs) && agree(&SUBDIVIDE, &inputs));
+    }
+
+    #[test]
+    fn finds_the_quartiles() {
+        let times = (0..=8).rev().map(f64::from).collect();
+        assert_eq!(quartiles(times), [2.0, 4.0, 6.0]);
+    }
 }

@@ -1,16 +1,16 @@
 //! The plain side: what one would write by hand in Rust for the same slices and the same refusals. One
-//! table in place, sides of 32 bits, products of 64 bits, and one division for each side. Neither
-//! side works out the ohms: nothing here reads ours, so the compiler leaves them out.
+//! table in place, sides of 32 bits, products of 64 bits, and one division for each side. It works out
+//! no ohms, which ours does.
 
-use crate::{CURVE_SIDES, RECT_SIDES};
-use second::model::{MAX_DEN, MAX_SIDE, PLACES};
+use crate::calls::CURVE_SIDES;
+use jusqani::{MAX_DEN, MAX_SIDE, PLACES, RECT_LENGTH};
 
-type Rect = [i32; RECT_SIDES];
+type Rect = [i32; RECT_LENGTH];
 type Points = [Rect; PLACES];
 
 fn points_of(sides: &[i32]) -> Points {
-    let mut points = [[0; RECT_SIDES]; PLACES];
-    for (point, sides) in points.iter_mut().zip(sides.chunks_exact(RECT_SIDES)) {
+    let mut points = [[0; RECT_LENGTH]; PLACES];
+    for (point, sides) in points.iter_mut().zip(sides.chunks_exact(RECT_LENGTH)) {
         point.copy_from_slice(sides);
     }
     points
@@ -18,14 +18,14 @@ fn points_of(sides: &[i32]) -> Points {
 
 /// The refusal's number: 2 over all rectangles, 3 over all, then 4 and 5. The degree is fixed.
 fn refusal(points: &Points, num: u32, den: u32) -> u32 {
-    let limits = -MAX_SIDE as i32..=MAX_SIDE as i32;
+    let limits = -MAX_SIDE..=MAX_SIDE;
     if !points.iter().flatten().all(|side| limits.contains(side)) {
         return 2;
     }
     if points.iter().any(|r| r[0] > r[1] || r[2] > r[3]) {
         return 3;
     }
-    if den < 1 || i64::from(den) > MAX_DEN {
+    if !(1..=MAX_DEN).contains(&den) {
         return 4;
     }
     if num > den {
@@ -51,7 +51,7 @@ fn stage(points: &mut [Rect], num: u32, den: u32) {
 }
 
 fn store(points: &[Rect], out: &mut [i32]) {
-    for (out, point) in out.chunks_exact_mut(RECT_SIDES).zip(points) {
+    for (out, point) in out.chunks_exact_mut(RECT_LENGTH).zip(points) {
         out.copy_from_slice(point);
     }
 }
