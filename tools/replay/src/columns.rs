@@ -1,5 +1,7 @@
 //! Numbers in text columns, ten bytes wide and set to the right.
 
+use std::fmt::Write;
+
 /// The bytes of a column.
 pub const COLUMN: usize = 10;
 
@@ -23,10 +25,11 @@ pub fn number_in(bytes: &[u8]) -> Option<i64> {
 
 /// The columns of some numbers, without a line end.
 pub fn columns_of(numbers: &[i64]) -> String {
-    numbers
-        .iter()
-        .map(|number| format!("{number:>COLUMN$}"))
-        .collect()
+    let mut columns = String::with_capacity(line_length(numbers.len()));
+    for number in numbers {
+        write!(columns, "{number:>COLUMN$}").expect("a string takes any text");
+    }
+    columns
 }
 
 /// A count as it is written.

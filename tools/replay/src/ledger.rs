@@ -11,8 +11,9 @@ pub enum Kept {
     Right,
 }
 
-/// The largest number that a place is shown with: twenty digits.
+/// The largest number that a place is shown with: twenty digits, which have at most 67 bits.
 const LARGEST: u128 = 99_999_999_999_999_999_999;
+const LARGEST_BITS: usize = 67;
 
 /// A place on the starting curve, in lowest terms.
 #[derive(PartialEq, Debug)]
@@ -21,19 +22,46 @@ pub struct Place {
     lower: u128,
 }
 
+impl Place {
+    /// The fraction upper/lower, which is at most 1, in lowest terms, if these have at most twenty digits.
+    /// Euclid's algorithm builds them up from its quotients, and is given up once they are longer.
+    fn of(upper: Natural, lower: Natural) -> Option<Place> {
+        let (mut dividend, mut divisor) = (upper, lower);
+        let mut before = Place { upper: 0, lower: 1 };
+        let mut last = Place { upper: 1, lower: 0 };
+        while !divisor.is_zero() {
+            let (quotient, rest) = dividend.divided(&divisor, LARGEST_BITS)?;
+            let next = Place {
+                upper: quotient
+                    .checked_mul(last.upper)?
+                    .checked_add(before.upper)?,
+                lower: quotient
+                    .checked_mul(last.lower)?
+                    .checked_add(before.lower)?,
+            };
+            if next.lower > LARGEST {
+                return None;
+            }
+            (before, last) = (last, next);
+            (dividend, divisor) = (divisor, rest);
+        }
+        Some(last)
+    }
+}
+
 impl fmt::Display for Place {
     fn fmt(&self, f: &mut fmt::Formatter) -> fmt::Result {
         write!(f, "{}/{}", self.upper, self.lower)
     }
 }
 
-/// The stretch of the starting curve that is left. Start and width are whole numbers over the product
-/// of `factors`, the dens of the cuts. They are kept exactly however large they grow, because a
-/// place with few digits can come after any list of cuts: at 1/1 after right pieces it is always 1.
+/// The stretch of the starting curve that is left, its start and width over one lower number. They
+/// are kept exactly however long they grow, because a short place can come after any list of cuts:
+/// the end of a right piece is always that of its parent.
 pub struct Stretch {
     start: Natural,
     width: Natural,
-    factors: Vec<u32>,
+    lower: Natural,
 }
 
 impl Stretch {
@@ -41,13 +69,12 @@ impl Stretch {
         Stretch {
             start: Natural::from(0),
             width: Natural::from(1),
-            factors: Vec::new(),
+            lower: Natural::from(1),
         }
     }
 
     /// Keeps one piece of a cut at num/den, an accepted parameter.
     pub fn cut(&mut self, num: u32, den: u32, kept: Kept) {
-        let (num, den) = lowest(num, den);
         let start = self.start.times(den);
         match kept {
             Kept::Left => {
@@ -59,39 +86,14 @@ impl Stretch {
                 self.width = self.width.times(den - num);
             }
         }
-        self.factors.push(den);
+        self.lower = self.lower.times(den);
     }
 
-    /// The place of num/den, an accepted parameter, if its terms have at most twenty digits.
+    /// The place of num/den, an accepted parameter, if it can be shown.
     pub fn place(&self, num: u32, den: u32) -> Option<Place> {
-        let (num, den) = lowest(num, den);
-        let mut upper = self.start.times(den).plus(&self.width.times(num));
-        let mut lower = 1;
-        // One pass gives lowest terms: what is left of a factor has no divisor in common with upper.
-        for factor in self.factors.iter().chain([&den]) {
-            let common = common_divisor(*factor, upper.divided(*factor).1);
-            upper = upper.divided(common).0;
-            lower *= u128::from(factor / common);
-            if lower > LARGEST {
-                return None;
-            }
-        }
-        let upper = upper.small()?;
-        Some(Place { upper, lower })
+        let upper = self.start.times(den).plus(&self.width.times(num));
+        Place::of(upper, self.lower.times(den))
     }
-}
-
-/// A fraction in lowest terms.
-fn lowest(num: u32, den: u32) -> (u32, u32) {
-    let common = common_divisor(den, num);
-    (num / common, den / common)
-}
-
-fn common_divisor(a: u32, b: u32) -> u32 {
-    if b == 0 {
-        return a;
-    }
-    common_divisor(b, a % b)
 }
 
 /// The sum of steps, and the stretch where places are asked for.

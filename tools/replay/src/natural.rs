@@ -1,21 +1,44 @@
 //! Whole numbers of any size, as far as the ledger needs them.
 
+use std::cmp::Ordering;
+
 /// A whole number from 0 on, in digits of 32 bits, the lowest first; the highest is not 0.
-#[derive(Clone, PartialEq, Debug)]
+#[derive(Clone, PartialEq, Eq, Debug)]
 pub struct Natural {
     digits: Vec<u32>,
 }
 
 impl From<u32> for Natural {
     fn from(number: u32) -> Natural {
-        Natural {
-            digits: vec![number],
-        }
-        .trimmed()
+        Natural::of(vec![number])
+    }
+}
+
+impl Ord for Natural {
+    fn cmp(&self, other: &Natural) -> Ordering {
+        let lengths = self.digits.len().cmp(&other.digits.len());
+        lengths.then_with(|| self.digits.iter().rev().cmp(other.digits.iter().rev()))
+    }
+}
+
+impl PartialOrd for Natural {
+    fn partial_cmp(&self, other: &Natural) -> Option<Ordering> {
+        Some(self.cmp(other))
     }
 }
 
 impl Natural {
+    fn of(mut digits: Vec<u32>) -> Natural {
+        while digits.last() == Some(&0) {
+            digits.pop();
+        }
+        Natural { digits }
+    }
+
+    pub fn is_zero(&self) -> bool {
+        self.digits.is_empty()
+    }
+
     pub fn times(&self, factor: u32) -> Natural {
         let mut carry = 0;
         let mut digits = Vec::with_capacity(self.digits.len() + 1);
@@ -25,7 +48,7 @@ impl Natural {
             carry >>= u32::BITS;
         }
         digits.push(carry as u32);
-        Natural { digits }.trimmed()
+        Natural::of(digits)
     }
 
     pub fn plus(&self, other: &Natural) -> Natural {
@@ -37,38 +60,55 @@ impl Natural {
             digits.push(carry as u32);
             carry >>= u32::BITS;
         }
-        Natural { digits }.trimmed()
+        Natural::of(digits)
     }
 
-    /// The quotient and the remainder by a divisor, which is not 0.
-    pub fn divided(&self, divisor: u32) -> (Natural, u32) {
-        let divisor = u64::from(divisor);
-        let mut digits = self.digits.clone();
-        let mut rest = 0;
-        for digit in digits.iter_mut().rev() {
-            rest = rest << u32::BITS | u64::from(*digit);
-            *digit = (rest / divisor) as u32;
-            rest %= divisor;
+    /// The quotient and the rest by a divisor other than 0, if the quotient has at most so many bits;
+    /// it may be given with one bit more.
+    pub fn divided(&self, divisor: &Natural, bits: usize) -> Option<(u128, Natural)> {
+        let shift = self.bits().saturating_sub(divisor.bits());
+        if shift > bits {
+            return None;
         }
-        (Natural { digits }.trimmed(), rest as u32)
+        let mut quotient = 0;
+        let mut rest = self.clone();
+        for shift in (0..=shift).rev() {
+            let part = divisor.shifted(shift);
+            if part <= rest {
+                rest = rest.minus(&part);
+                quotient |= 1 << shift;
+            }
+        }
+        Some((quotient, rest))
     }
 
-    /// The number, if it has at most 128 bits.
-    pub fn small(&self) -> Option<u128> {
-        let fits = self.digits.len() <= 4;
-        let digits = self.digits.iter().rev();
-        fits.then(|| digits.fold(0, |number, digit| number << u32::BITS | u128::from(*digit)))
+    /// The number less another one, which is no larger.
+    fn minus(&self, other: &Natural) -> Natural {
+        let mut borrow = false;
+        let mut digits = Vec::with_capacity(self.digits.len());
+        for (k, digit) in self.digits.iter().enumerate() {
+            let (less, under) = digit.overflowing_sub(other.digit(k));
+            let (less, under_again) = less.overflowing_sub(borrow.into());
+            digits.push(less);
+            borrow = under || under_again;
+        }
+        Natural::of(digits)
+    }
+
+    /// The number times a power of two.
+    fn shifted(&self, bits: usize) -> Natural {
+        let mut digits = vec![0; bits / u32::BITS as usize];
+        digits.extend(self.times(1 << (bits % u32::BITS as usize)).digits);
+        Natural::of(digits)
+    }
+
+    fn bits(&self) -> usize {
+        let unused = self.digits.last().map_or(0, |digit| digit.leading_zeros());
+        self.digits.len() * u32::BITS as usize - unused as usize
     }
 
     fn digit(&self, k: usize) -> u32 {
         self.digits.get(k).copied().unwrap_or(0)
-    }
-
-    fn trimmed(mut self) -> Natural {
-        while self.digits.last() == Some(&0) {
-            self.digits.pop();
-        }
-        self
     }
 }
 
@@ -76,39 +116,37 @@ impl Natural {
 mod tests {
     use super::*;
 
-    #[test]
-    fn multiplies_and_divides_beyond_128_bits() {
-        let mut number = Natural::from(1);
-        for factor in 1..=60 {
-            number = number.times(factor);
-        }
-        assert_eq!(number.small(), None);
-        for divisor in (1..=60).rev() {
-            assert_eq!(
-                number.plus(&Natural::from(divisor - 1)).divided(divisor).1,
-                divisor - 1
-            );
-            let (quotient, rest) = number.divided(divisor);
-            assert_eq!(rest, 0);
-            number = quotient;
-        }
-        assert_eq!(number, Natural::from(1));
+    fn power(base: u32, exponent: u32) -> Natural {
+        (0..exponent).fold(Natural::from(1), |power, _| power.times(base))
     }
 
     #[test]
-    fn carries() {
-        let all_ones = Natural::from(u32::MAX)
-            .times(u32::MAX)
-            .plus(&Natural::from(u32::MAX).times(2));
-        assert_eq!(all_ones.small(), Some(u128::from(u64::MAX)));
-        assert_eq!(all_ones.plus(&Natural::from(1)).small(), Some(1 << 64));
+    fn adds_with_a_carry_through_every_digit() {
+        let all_ones = power(2, 96).minus(&Natural::from(1));
+        assert_eq!(all_ones.digits, [u32::MAX; 3]);
+        assert_eq!(all_ones.plus(&Natural::from(1)), power(2, 96));
+        assert!(all_ones < power(2, 96));
+    }
+
+    #[test]
+    fn divides_numbers_of_many_digits() {
+        let divisor = power(10, 60);
+        let rest = power(10, 59).plus(&Natural::from(7));
+        for quotient in [0, 1, 2, 999, u32::MAX] {
+            let number = divisor.times(quotient).plus(&rest);
+            let expected = Some((quotient.into(), rest.clone()));
+            assert_eq!(number.divided(&divisor, 32), expected);
+        }
+        let (quotient, rest) = power(10, 78).divided(&divisor, 60).unwrap();
+        assert_eq!((quotient, rest.is_zero()), (10_u128.pow(18), true));
+        assert_eq!(power(10, 80).divided(&divisor, 60), None);
     }
 
     #[test]
     fn knows_zero() {
         let zero = Natural::from(0);
-        assert_eq!(zero.small(), Some(0));
         assert_eq!(Natural::from(7).times(0), zero);
-        assert_eq!(zero.divided(7), (zero.clone(), 0));
+        assert_eq!(power(7, 40).minus(&power(7, 40)), zero);
+        assert_eq!(zero.divided(&power(7, 40), 0), Some((0, zero.clone())));
     }
 }
