@@ -9,7 +9,9 @@ fn main() {
     let archive = directory.join("libjusqani.a");
     println!("cargo:rerun-if-changed={}", archive.display());
     if !archive.is_file() {
-        eprintln!("the proved library target/staticlib/libjusqani.a is not there; run tools/library, which makes it");
+        eprintln!(
+            "the proved library target/staticlib/libjusqani.a is not there: run tools/library"
+        );
         process::exit(1);
     }
     println!("cargo:rustc-link-search=native={}", directory.display());

@@ -6,7 +6,7 @@ use std::fmt::Write;
 pub const COLUMN: usize = 10;
 
 /// The largest number that a column holds. A larger count is written as this one.
-pub const LARGEST: u64 = 9_999_999_999;
+const LARGEST: u64 = 9_999_999_999;
 
 /// The byte that ends a line.
 pub const LINE_END: u8 = b'\n';

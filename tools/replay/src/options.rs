@@ -4,26 +4,29 @@ use std::ffi::OsString;
 
 pub const USAGE: &str = "usage: replay [--places] [FILE]
 
-Runs lists of calls from cards, read from FILE or from standard input, and prints a line for each card
-and call, in columns of ten bytes. A case is a card, then call lines, then a line with the column 0:
+Runs lists of calls from cards, read from FILE or from standard input, and prints a line for each
+card and call. All numbers stand in columns of ten bytes. A case is a card, then call lines, then a
+line with the column 0:
 
-  1 num den                  reading: 0, the load's four sides, the ledger's sum of steps
-  2 num den                  cut, left piece kept: 0, the degree, the rectangles of the left piece and of the right
-  3 num den                  cut, right piece kept: the same
-  4                          raising: 0, the new degree, its rectangles
-  5                          bounds: 0, four sides
-  6 four box sides, depth, budget
-                             walk over a box: 0, verdict (1 Inside, 2 Outside, 3 Spent, 4 Undecided), depth, index, count
+  columns of the line        call                   answer
+  1, num, den                reading                0, the load's four sides, the sum of steps
+  2, num, den                cut, left piece kept   0, the degree, the rectangles of the left piece,
+                                                    then of the right
+  3, num, den                cut, right piece kept  the same
+  4                          raising                0, the new degree, its rectangles
+  5                          bounds                 0, four sides
+  6, four box sides, depth,  walk over a box        0, verdict (1 Inside, 2 Outside, 3 Spent,
+  budget                                            4 Undecided), depth, index, count
 
 A card answers 0 and its degree, and a refusal its number and place. A card or a call line that is
 malformed or cut short ends the run with 99 and the offset of its first byte.
 
-  --places  put two spaces and the place on the starting curve, as upper/lower in lowest terms, behind
-            each accepted reading, where both numbers have at most 20 digits
+  --places  put two spaces and the place on the starting curve behind each accepted reading, as
+            upper/lower in lowest terms, where both have at most 20 digits
   --help    print this
 
-Exit status: 0 the run went to the end, or nobody reads its output any more; 1 a card or a call line is
-malformed or cut short; 2 the input cannot be read, the output cannot be written, or bad usage.
+Exit status: 0 the run went to the end, or nobody reads its output any more; 1 a card or a call line
+is malformed or cut short; 2 bad usage, or the input cannot be read or the output not be written.
 ";
 
 #[derive(PartialEq, Debug)]

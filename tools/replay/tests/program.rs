@@ -75,54 +75,52 @@ fn runs_to_the_end() {
     expect(&run(&[], &closed), 0, "         0         1\n", "");
 }
 
+/// A fourth line behind the card, the column where it is wrong, and the words for it.
+const FAULTS: [(&str, usize, &str); 6] = [
+    (
+        "         4\r\n",
+        11,
+        "the line has to end here, with byte 10, and \"\\r\" stands here",
+    ),
+    (
+        "        04\n",
+        1,
+        "\"        04\" is not a number set to the right in ten bytes",
+    ),
+    (
+        "         1         1\n",
+        21,
+        "the line ends, and ten bytes of a number are due here",
+    ),
+    (
+        "         1         1        -2\n",
+        21,
+        "den is -2, which is not 0 to 4294967295",
+    ),
+    (
+        "        12\n",
+        1,
+        "12 is no call: 1 to 6 are the calls, and 0 ends a case",
+    ),
+    (
+        "         5",
+        11,
+        "the input ends, and the line has to end first, with byte 10",
+    ),
+];
+
 #[test]
 fn says_where_a_text_is_malformed() {
-    let faults = [
-        (
-            "         4\r\n",
-            11,
-            "the line has to end here, with byte 10, and \"\\r\" stands here",
-        ),
-        (
-            "        04\n",
-            1,
-            "\"        04\" is not a number set to the right in ten bytes",
-        ),
-        (
-            "         1         1\n",
-            21,
-            "the line ends, and ten bytes of a number are due here",
-        ),
-        (
-            "         1         1        -2\n",
-            21,
-            "den is -2, which is not 0 to 4294967295",
-        ),
-        (
-            "        12\n",
-            1,
-            "12 is no call: 1 to 6 are the calls, and 0 ends a case",
-        ),
-        (
-            "         5",
-            11,
-            "the input ends, and the line has to end first, with byte 10",
-        ),
-    ];
-    for (line, column, what) in faults {
+    for (line, column, what) in FAULTS {
         let output = run(&[], &format!("{CARD}{line}"));
         let answers = "         0         1\n        99        93\n";
         let message = format!("replay: standard input, line 4, column {column}: {what}\n");
         expect(&output, 1, answers, &message);
     }
-    let message =
-        "replay: standard input, line 1, column 1: the degree is 9, which is not 1 to 8\n";
-    expect(
-        &run(&[], "         9\n"),
-        1,
-        "        99         0\n",
-        message,
-    );
+    let output = run(&[], "         9\n");
+    let message = "the degree is 9, which is not 1 to 8\n";
+    let message = format!("replay: standard input, line 1, column 1: {message}");
+    expect(&output, 1, "        99         0\n", &message);
 }
 
 #[test]
@@ -145,13 +143,20 @@ fn reads_a_file() {
 
 #[test]
 fn shows_places_where_it_is_asked_to() {
-    let text = format!("{CARD}         3         1         3\n         1         1         4\n         1         5         4\n");
-    let cut = "         0         1         0         1        -3        -3         0         2        -2        -1         0         2        -2        -1         1         3         0         2\n";
+    // From 1/3 on, two thirds wide; a quarter of that is the place 1/2.
+    let calls = "         3         1         3\n         1         1         4\n         1         5         4\n";
+    let text = format!("{CARD}{calls}");
+    let shown = |arguments: &[&str]| {
+        let output = run(arguments, &text);
+        assert_eq!(output.status.code(), Some(0));
+        let answers = String::from_utf8(output.stdout).unwrap();
+        answers.lines().map(str::to_string).collect::<Vec<_>>()
+    };
+    let mut answers = shown(&[]);
     let read = "         0         0         3        -2         0         2";
-    let answers =
-        |place: &str| format!("         0         1\n{cut}{read}{place}\n         5         0\n");
-    expect(&run(&[], &text), 0, &answers(""), "");
-    expect(&run(&["--places"], &text), 0, &answers("  1/2"), "");
+    assert_eq!(answers[2..], [read, "         5         0"]);
+    answers[2].push_str("  1/2");
+    assert_eq!(shown(&["--places"]), answers);
 }
 
 #[test]
