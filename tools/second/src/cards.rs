@@ -1,7 +1,7 @@
 //! The card reader and the card writer beside the model.
 
 use crate::card::{card_length, degree_of, FIRST_LINE, LINE};
-use crate::coverage::{Line, Row};
+use crate::coverage::{Kind, Line, Malformed, Row};
 use crate::damage;
 use crate::door::{curve_length, FOUR, MODEL};
 use crate::draw;
@@ -54,37 +54,44 @@ pub fn read(trial: &mut Trial, card: &[u8]) -> Result<Outcome<Given>, String> {
     Ok(outcome.map(|()| Given::handed_on(curve.left())))
 }
 
-/// Counts a card by its kind, and a refusal 11 by what is malformed.
+/// Counts a card by its kind, a refusal 10 by the length and a refusal 11 by what is malformed.
 fn count_card(trial: &mut Trial, card: &[u8], expected: u64) {
     let (number, place) = number_and_place(expected);
-    trial.tally.cover(Line::ReadKinds, kind_of(card, number));
-    if number == 11 {
-        trial
-            .tally
-            .cover(Line::ReadMalformed, malformed(place as usize));
+    let (tally, place) = (&mut *trial.tally, place as usize);
+    tally.cover(Line::ReadKinds, kind_of(card, number) as usize);
+    match number {
+        10 => {
+            let above = [0, FIRST_LINE - 1, card_length(MAX_DEGREE)].map(|end| place > end);
+            tally.cover(
+                Line::ReadLengths,
+                above.iter().filter(|above| **above).count(),
+            );
+        }
+        11 => tally.cover(Line::ReadMalformed, malformed(place) as usize),
+        _ => {}
     }
 }
 
-/// The kind of a card to which the model answers this number, by its place in the coverage's list.
-fn kind_of(card: &[u8], number: u32) -> usize {
+/// The kind of a card to which the model answers this number.
+fn kind_of(card: &[u8], number: u32) -> Kind {
     let Ok(degree) = degree_of(card) else {
-        return 3;
+        return Kind::NoDegree;
     };
     match card.len() {
-        length if length < card_length(degree) => 1,
-        length if length > card_length(degree) => 2,
-        _ if number == ACCEPTED || number == SHORT => 0,
-        _ => 4,
+        length if length < card_length(degree) => Kind::CutShort,
+        length if length > card_length(degree) => Kind::TooLong,
+        _ if number == ACCEPTED || number == SHORT => Kind::Sound,
+        _ => Kind::Refused,
     }
 }
 
-/// What is malformed at a place, by its place in the coverage's list.
-fn malformed(place: usize) -> usize {
+/// What is malformed at a place.
+fn malformed(place: usize) -> Malformed {
     match place {
-        0 => 0,
-        10 => 1,
-        _ if (place - FIRST_LINE) % LINE < LINE - 1 => 2,
-        _ => 3,
+        0 => Malformed::Degree,
+        _ if place < FIRST_LINE => Malformed::DegreeLineEnd,
+        _ if (place - FIRST_LINE) % LINE < LINE - 1 => Malformed::Side,
+        _ => Malformed::SideLineEnd,
     }
 }
 
@@ -160,17 +167,23 @@ mod tests {
     #[test]
     fn tells_cards_apart() {
         let kinds = [
-            (CARD.to_vec(), 0),
-            (CARD[..92].to_vec(), 1),
-            ([CARD, b" "].concat(), 2),
-            (CARD[..10].to_vec(), 3),
-            ([&CARD[..92], b" "].concat(), 4),
+            (CARD.to_vec(), Kind::Sound),
+            (CARD[..92].to_vec(), Kind::CutShort),
+            ([CARD, b" "].concat(), Kind::TooLong),
+            (CARD[..10].to_vec(), Kind::NoDegree),
+            ([&CARD[..92], b" "].concat(), Kind::Refused),
         ];
         for (card, kind) in kinds {
-            let (number, place) = number_and_place((MODEL.read_card)(&card, &mut [0; 9]));
+            let (number, _) = number_and_place((MODEL.read_card)(&card, &mut [0; 9]));
             assert_eq!(kind_of(&card, number), kind);
-            assert!(number != 11 || malformed(place as usize) == 3);
         }
-        assert_eq!([0, 10, 11, 41, 51, 52].map(malformed), [0, 1, 2, 2, 3, 2]);
+    }
+
+    #[test]
+    fn tells_malformed_places_apart() {
+        assert_eq!(malformed(0), Malformed::Degree);
+        assert_eq!(malformed(10), Malformed::DegreeLineEnd);
+        assert_eq!([11, 41, 52].map(malformed), [Malformed::Side; 3]);
+        assert_eq!([51, 92].map(malformed), [Malformed::SideLineEnd; 2]);
     }
 }

@@ -63,6 +63,7 @@ pub enum Line {
     OutOfRange,
     Crossed,
     ShortToo,
+    Fits,
     EvaluateNumbers,
     EvaluateAt,
     EvaluateLoad,
@@ -84,6 +85,7 @@ pub enum Line {
     ReadNumbers,
     ReadCurve,
     ReadKinds,
+    ReadLengths,
     ReadMalformed,
     WriteNumbers,
     WriteSound,
@@ -92,9 +94,49 @@ pub enum Line {
     PanelOut,
     PanelAt,
     Changes,
+    Refusals,
     CardNumbers,
     Endings,
     Placed,
+}
+
+/// Where an accepted parameter lies, and which limit of den it meets.
+#[derive(Clone, Copy)]
+pub enum At {
+    Start,
+    End,
+    Between,
+    LeastDen,
+    GreatestDen,
+    OtherDen,
+}
+
+/// What a side in ohms is.
+#[derive(Clone, Copy)]
+pub enum Ohm {
+    Zero,
+    Below,
+    Above,
+    Least,
+    Greatest,
+}
+
+/// What a card is, and what of it is malformed.
+#[derive(Clone, Copy, PartialEq, Debug)]
+pub enum Kind {
+    Sound,
+    CutShort,
+    TooLong,
+    NoDegree,
+    Refused,
+}
+
+#[derive(Clone, Copy, PartialEq, Debug)]
+pub enum Malformed {
+    Degree,
+    DegreeLineEnd,
+    Side,
+    SideLineEnd,
 }
 
 /// The values of a line that must come: numbers from one to another, these numbers, or words.
@@ -105,25 +147,29 @@ pub enum Values {
     Words(&'static [&'static str]),
 }
 
-/// The words of values that are counted by their place in the list.
-pub const REACHED: Values = Words(&["neither", "-16,777,216", "16,777,216", "both"]);
-pub const LENT: Values = Words(&["fewer", "as many", "more"]);
-pub const AT: Values = Words(&["0", "1", "between", "den 1", "den 65,536", "den between"]);
-pub const OHMS: Values = Words(&["0", "below 0", "above 0", "-16,384", "16,384"]);
-pub const KINDS: Values = Words(&[
+/// The words of values that are counted by their place in the list: for the limits that a side reaches,
+/// the least counts 1 and the greatest 2.
+const REACHED: Values = Words(&["neither", "-16,777,216", "16,777,216", "both"]);
+const LENT: Values = Words(&["fewer", "as many", "more"]);
+const FITS: Values = Words(&["one short", "exact", "one more"]);
+/// In the order of the enums At, Ohm, Kind and Malformed.
+const AT: Values = Words(&["0", "1", "between", "den 1", "den 65,536", "den between"]);
+const OHMS: Values = Words(&["0", "below 0", "above 0", "-16,384", "16,384"]);
+const KINDS: Values = Words(&[
     "sound",
     "cut short",
     "too long",
     "without a degree",
     "of the right length, but refused",
 ]);
-pub const MALFORMED: Values = Words(&["degree", "its line end", "side", "its line end"]);
-pub const ENDINGS: Values = Words(&["after the text", "at a bad card or line"]);
-pub const PLACED: Values = Words(&["shown", "too long to show"]);
+const MALFORMED: Values = Words(&["degree", "its line end", "side", "a side's line end"]);
+const LENGTHS: Values = Words(&["0", "1 to 10", "11 to 380", "above 380"]);
 /// The refused degrees that are drawn, in draw's order.
 const REFUSED: Values = Words(&[
     "0", "9", "10", "257", "65538", "2^31", "2^31 + 3", "2^32 - 1",
 ]);
+const ENDINGS: Values = Words(&["after the text", "at a bad card or line"]);
+const PLACED: Values = Words(&["shown", "too long to show"]);
 
 /// The lines by what they are about: what is counted, the values and how often each must come.
 type Group = (&'static str, &'static [(Line, &'static str, Values, u64)]);
@@ -145,6 +191,7 @@ pub const GROUPS: [Group; 11] = [
             (OutOfRange, "places of 2", Span(0, 8), 1_000),
             (Crossed, "places of 3", Span(0, 8), 1_000),
             (ShortToo, "with a short buffer", Span(1, 11), 500),
+            (Fits, "shortest buffer, where it counts", FITS, 100_000),
         ],
     ),
     (
@@ -221,6 +268,7 @@ pub const GROUPS: [Group; 11] = [
             ),
             (ReadCurve, "read, curve lent", Span(0, 41), 200),
             (ReadKinds, "read, cards", KINDS, 10_000),
+            (ReadLengths, "read, places of 10", LENGTHS, 100),
             (ReadMalformed, "read, places of 11", MALFORMED, 500),
             (
                 WriteNumbers,
@@ -247,7 +295,10 @@ pub const GROUPS: [Group; 11] = [
     ),
     (
         "demand 3",
-        &[(Changes, "changes before", Span(0, 5), 1_000)],
+        &[
+            (Changes, "changes before", Span(0, 5), 1_000),
+            (Refusals, "refused changes before", Span(0, 3), 500),
+        ],
     ),
     (
         "programs",

@@ -12,7 +12,7 @@ pub fn degree(rng: &mut Rng) -> usize {
 
 /// An accepted curve.
 pub fn curve(rng: &mut Rng, degree: usize) -> Curve {
-    let style = rng.below(6);
+    let style = rng.below(7);
     let mut curve = Curve::ZERO;
     curve.degree = degree;
     for point in &mut curve.points[..=degree] {
@@ -36,8 +36,15 @@ fn sides(rng: &mut Rng, style: u64) -> (i64, i64) {
         // A measurement within its margin.
         3 => width(rng.between(-500_000, 500_000), rng.between(0, 3_000)),
         4 => sorted(any(), any()),
+        5 => sorted(about_a_power_of_ten(rng), about_a_power_of_ten(rng)),
         _ => sorted(extreme(rng), extreme(rng)),
     }
+}
+
+/// A side where a card's number gets one digit more.
+fn about_a_power_of_ten(rng: &mut Rng) -> i64 {
+    let power = 10_i64.pow(rng.up_to(7) as u32);
+    rng.pick(&[-1, 1]) * (power + rng.between(-1, 1))
 }
 
 fn extreme(rng: &mut Rng) -> i64 {

@@ -48,6 +48,9 @@ impl Bits for f32 {
 /// Behind every buffer lie this many numbers, where nothing may be written either.
 pub const BEHIND: usize = 4;
 
+/// A message shows so many numbers about the first that differs.
+const SHOWN: usize = 16;
+
 /// One buffer lent twice: to the model, which leaves what is expected, and to the call compared with it.
 pub struct Lent<T, const N: usize> {
     name: &'static str,
@@ -88,6 +91,11 @@ impl<T: Bits, const N: usize> Lent<T, N> {
     pub fn left(&self) -> &[T] {
         &self.came[..self.length]
     }
+
+    fn first_difference(&self) -> Option<usize> {
+        let mut pairs = self.expected.iter().zip(&self.came);
+        pairs.position(|(a, b)| a.bits() != b.bits())
+    }
 }
 
 /// A lent buffer of any kind, once both calls have had it.
@@ -96,7 +104,7 @@ pub trait Compared {
     fn length(&self) -> usize;
     /// Whether every number of the buffer and behind it is as expected.
     fn agrees(&self) -> bool;
-    /// The buffer before, as expected and as it came.
+    /// Where the buffer differs: before, as expected and as it came.
     fn account(&self) -> String;
 }
 
@@ -112,9 +120,15 @@ impl<T: Bits, const N: usize> Compared for Lent<T, N> {
 
     fn account(&self) -> String {
         let Lent { name, length, .. } = self;
+        let Some(first) = self.first_difference() else {
+            return format!("{name}, {length} lent: as expected\n");
+        };
+        let from = first.saturating_sub(SHOWN / 2);
+        let shown = |numbers: &[T; N]| format!("{:?}", &numbers[from..N.min(from + SHOWN)]);
+        let [before, expected, came] = [&self.filled, &self.expected, &self.came].map(shown);
         format!(
-            "{name}, {length} lent and what lies behind\n  before   {:?}\n  expected {:?}\n  came     {:?}\n",
-            self.filled, self.expected, self.came
+            "{name}, {length} lent: number {first} differs, from number {from}\n  \
+             before   {before}\n  expected {expected}\n  came     {came}\n"
         )
     }
 }
@@ -137,6 +151,21 @@ mod tests {
                 assert!(!changed.agrees(), "number {k}, bit {bit}");
             }
         }
+    }
+
+    #[test]
+    fn tells_where_it_differs() {
+        assert_eq!(lent().account(), "ohms, 4 lent: as expected\n");
+        let mut changed = lent();
+        (changed.filled, changed.expected) = ([1.0; 8], [1.0; 8]);
+        changed.came = [1.0, 1.0, 1.0, 1.0, 1.0, 1.0, -0.0, 1.0];
+        let account = changed.account();
+        let lines: Vec<&str> = account.lines().collect();
+        assert_eq!(lines[0], "ohms, 4 lent: number 6 differs, from number 0");
+        assert_eq!(
+            lines[3],
+            "  came     [1.0, 1.0, 1.0, 1.0, 1.0, 1.0, -0.0, 1.0]"
+        );
     }
 
     #[test]

@@ -15,19 +15,21 @@ const CLAIMED: u64 = 6;
 /// The bounds about which boxes are drawn for a curve that has none.
 const NO_BOUNDS: Rectangle = [-9, 9, -9, 9];
 
-/// What a list holds between two calls: the curve left, and the ledger where the starting curve is accepted.
+/// What a list holds between two calls: the curve left, the ledger where the starting curve is accepted,
+/// and how many subdivisions and elevations were accepted and refused.
 struct List {
     given: Given,
     ledger: Option<Ledger>,
     changes: usize,
+    refusals: usize,
 }
 
-/// An accepted evaluation: the ledger's entry, the sides that came, and how many accepted calls before it
-/// changed the curve.
+/// An accepted evaluation: the ledger's entry, the sides that came, and what came before it.
 struct Evaluation {
     entry: Entry,
     sides: Rectangle,
     changes: usize,
+    refusals: usize,
 }
 
 /// Compares a list from a drawn curve of this degree.
@@ -42,6 +44,7 @@ pub fn compare(trial: &mut Trial, degree: usize) -> Result<(), String> {
         given,
         ledger,
         changes: 0,
+        refusals: 0,
     };
     let mut evaluations = Vec::new();
     for call in &calls {
@@ -74,7 +77,7 @@ fn step(trial: &mut Trial, list: &mut List, call: &Call) -> Result<Option<Evalua
         Call::Evaluate(t) => {
             let outcome = trial.evaluate(&list.given, *t)?;
             let entry = feed(list, call, &outcome);
-            return evaluation(outcome, entry, list.changes);
+            return evaluation(outcome, entry, list);
         }
         Call::Subdivide(t, kept) => {
             let outcome = trial.subdivide(&list.given, *t)?;
@@ -106,9 +109,12 @@ fn feed<T>(list: &mut List, call: &Call, outcome: &Outcome<T>) -> Option<Entry> 
 /// Keeps the curve that an accepted call gave; a refused one leaves the curve it got.
 fn change(list: &mut List, call: &Call, outcome: Outcome<Given>) {
     feed(list, call, &outcome);
-    if let Ok(given) = outcome {
-        list.given = given;
-        list.changes += 1;
+    match outcome {
+        Ok(given) => {
+            list.given = given;
+            list.changes += 1;
+        }
+        Err(_) => list.refusals += 1,
     }
 }
 
@@ -116,13 +122,14 @@ fn change(list: &mut List, call: &Call, outcome: Outcome<Given>) {
 fn evaluation(
     outcome: Outcome<[i32; 4]>,
     entry: Option<Entry>,
-    changes: usize,
+    list: &List,
 ) -> Result<Option<Evaluation>, String> {
     match (outcome, entry) {
         (Ok(sides), Some(entry)) => Ok(Some(Evaluation {
             entry,
             sides: sides.map(i64::from),
-            changes,
+            changes: list.changes,
+            refusals: list.refusals,
         })),
         (Err(_), None) => Ok(None),
         (outcome, _) => Err(format!("the ledger and the call differ on {outcome:?}")),
@@ -140,18 +147,14 @@ fn try_claim(
         return Ok(());
     }
     let inside = Ordinary::some_inside(start, trial.rng);
-    for Evaluation {
-        entry,
-        sides,
-        changes,
-    } in evaluations
-    {
-        let held = claim(start, &inside, entry, sides);
+    for evaluation in evaluations {
+        let held = claim(start, &inside, &evaluation.entry, &evaluation.sides);
         trial.tally.compare(Row::Claim, held.is_ok(), || {
             let points = start.control_points();
             format!("{}\nfrom {points:?}\nafter {calls:?}", held.unwrap_err())
         })?;
-        trial.tally.cover(Line::Changes, *changes);
+        trial.tally.cover(Line::Changes, evaluation.changes);
+        trial.tally.cover(Line::Refusals, evaluation.refusals);
     }
     Ok(())
 }

@@ -1,7 +1,7 @@
 //! One call beside the model: both get the same slices and buffers filled alike, and the answer and every
 //! number of every buffer are compared. What the call covers is counted by what the model answers.
 
-use crate::coverage::{Line, Row};
+use crate::coverage::{At, Line, Ohm, Row};
 use crate::door::{Door, FOUR, MODEL};
 use crate::draw::REFUSED_DEGREES;
 use crate::given::Given;
@@ -119,19 +119,25 @@ impl Trial<'_> {
     ) {
         let (number, place) = number_and_place(expected);
         self.tally.cover(counted.numbers, number as usize);
+        let shortest = buffers.iter().map(|buffer| buffer.length()).min();
+        let shortest = shortest.expect("a buffer for the result");
         match number {
             ACCEPTED | SHORT => {
                 for (line, buffer) in counted.lengths.iter().zip(buffers) {
                     self.tally.cover(*line, buffer.length());
                 }
-                return;
+                // One short, exact or one more.
+                let fits = (shortest + 1).checked_sub(needed).filter(|fits| *fits < 3);
+                fits.into_iter()
+                    .for_each(|fits| self.tally.cover(Line::Fits, fits));
             }
+            _ if shortest < needed => self.tally.cover(Line::ShortToo, number as usize),
+            _ => {}
+        }
+        match number {
             2 => self.tally.cover(Line::OutOfRange, place as usize),
             3 => self.tally.cover(Line::Crossed, place as usize),
             _ => {}
-        }
-        if buffers.iter().any(|buffer| buffer.length() < needed) {
-            self.tally.cover(Line::ShortToo, number as usize);
         }
     }
 
@@ -143,18 +149,18 @@ impl Trial<'_> {
 
     /// Counts the parameter of an accepted call: where it lies, and which limit of den it meets.
     pub fn count_parameter(&mut self, line: Line, t: Parameter) {
-        let end = match t.num {
-            0 => 0,
-            num if num == t.den => 1,
-            _ => 2,
+        let place = match t.num {
+            0 => At::Start,
+            num if num == t.den => At::End,
+            _ => At::Between,
         };
         let den = match t.den {
-            1 => 3,
-            MAX_DEN => 4,
-            _ => 5,
+            1 => At::LeastDen,
+            MAX_DEN => At::GreatestDen,
+            _ => At::OtherDen,
         };
-        self.tally.cover(line, end);
-        self.tally.cover(line, den);
+        self.tally.cover(line, place as usize);
+        self.tally.cover(line, den as usize);
     }
 
     /// The load's sides.
@@ -178,13 +184,13 @@ impl Trial<'_> {
     fn count_ohms(&mut self, sides: &[i32; 4]) {
         for side in sides {
             let kind = match i64::from(*side) {
-                0 => 0,
-                side if side == -MAX_SIDE => 3,
-                side if side == MAX_SIDE => 4,
-                side if side < 0 => 1,
-                _ => 2,
+                0 => Ohm::Zero,
+                side if side == -MAX_SIDE => Ohm::Least,
+                side if side == MAX_SIDE => Ohm::Greatest,
+                side if side < 0 => Ohm::Below,
+                _ => Ohm::Above,
             };
-            self.tally.cover(Line::OhmKinds, kind);
+            self.tally.cover(Line::OhmKinds, kind as usize);
         }
     }
 
@@ -290,7 +296,7 @@ impl Trial<'_> {
 
 fn shown(answer: u64) -> String {
     match number_and_place(answer) {
-        (ACCEPTED, 0) => "acceptance".to_string(),
+        (ACCEPTED, 0) => "accepted".to_string(),
         (number, place) => format!("number {number}, place {place}"),
     }
 }
