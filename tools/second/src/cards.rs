@@ -1,5 +1,6 @@
 //! The card reader and the card writer beside the model.
 
+use crate::calls::CURVE_ROOM;
 use crate::card::{card_length, degree_of, FIRST_LINE, LINE};
 use crate::coverage::{Kind, Line, Malformed, Row};
 use crate::damage;
@@ -9,7 +10,7 @@ use crate::given::Given;
 use crate::lent::{Lent, BEHIND};
 use crate::model::MAX_DEGREE;
 use crate::tally::visible;
-use crate::trial::{number_and_place, Counted, Outcome, Trial, ACCEPTED, CURVE_ROOM, SHORT};
+use crate::trial::{number_and_place, Counted, Outcome, Trial, ACCEPTED, SHORT};
 
 /// The longest buffer lent to the writer, a little longer than the longest card.
 pub const MAX_CARD_LENT: usize = 400;

@@ -19,6 +19,7 @@ pub mod given;
 pub mod rng;
 
 // What is compared.
+pub mod calls;
 pub mod cards;
 pub mod lent;
 pub mod lists;

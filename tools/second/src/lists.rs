@@ -4,7 +4,7 @@
 use crate::call::{Call, Kept};
 use crate::claim::{claim, Ordinary};
 use crate::coverage::{Line, Row};
-use crate::draw;
+use crate::draw::{self, REFUSED_DEGREES};
 use crate::given::Given;
 use crate::ledger::{Entry, Ledger};
 use crate::model::{Curve, Rectangle, MAX_SIDE};
@@ -58,7 +58,9 @@ pub fn compare(trial: &mut Trial, degree: usize) -> Result<(), String> {
 
 fn count_start(trial: &mut Trial, given: &Given, start: &Curve, calls: usize) {
     trial.tally.cover(Line::Calls, calls);
-    trial.count_refused_degree(given);
+    if let Some(place) = REFUSED_DEGREES.iter().position(|n| *n == given.degree) {
+        trial.tally.cover(Line::RefusedDegrees, place);
+    }
     if start.check().is_ok() {
         trial.tally.cover(Line::Degrees, start.degree);
         trial.tally.cover(Line::Reached, limits_reached(start));
