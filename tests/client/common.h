@@ -1,0 +1,25 @@
+/* What the two clients share: their arguments, the card they are given, and the words for a refusal. */
+#ifndef CLIENT_COMMON_H
+#define CLIENT_COMMON_H
+
+#include <stddef.h>
+#include <stdint.h>
+
+/* The exit statuses of a client besides 0. */
+#define REFUSED 1
+#define BAD_USAGE 2
+#define PROMISE_BROKEN 3
+
+/* The bytes of standard input that are taken as the card. */
+#define MAX_CARD 4096
+
+/* The number that an argument gives, at most a largest one; anything else ends the program. */
+uint32_t argument(const char *text, uint32_t largest);
+
+/* Reads the card from standard input and gives its length; a failure ends the program. */
+size_t read_input(uint8_t card[MAX_CARD]);
+
+/* The header's words for a refusal's number. */
+const char *meaning(uint32_t number);
+
+#endif

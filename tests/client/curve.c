@@ -1,0 +1,67 @@
+/* Reads a card to a curve and evaluates it: shows the ohms that the call itself gives, or a refusal with its place.
+ * usage: curve NUM DEN [CURVE-LENGTH [LOAD-LENGTH]] < CARD */
+#include <inttypes.h>
+#include <stdio.h>
+
+#include "common.h"
+#include "jusqani.h"
+
+#define MAX_CURVE JUSQANI_CURVE_LENGTH(8)
+#define STEPS_PER_OHM 1024.0f
+
+/* Says what was refused and where. */
+static void show_refusal(uint64_t answer)
+{
+    uint32_t number = JUSQANI_NUMBER(answer);
+    uint32_t place = JUSQANI_PLACE(answer);
+    printf("refused %" PRIu32 ": %s", number, meaning(number));
+    switch (number) {
+    case 2:
+    case 3: printf(", in rectangle %" PRIu32 "\n", place); break;
+    case 10: printf(", it has %" PRIu32 " bytes\n", place); break;
+    case 11: printf(", at offset %" PRIu32 "\n", place); break;
+    case 12: printf(", the length %" PRIu32 " is needed\n", place); break;
+    default: printf("\n"); break;
+    }
+}
+
+/* Whether the load in ohms is the load in steps, with nothing lost. */
+static int same_load(const int32_t *load, const float *ohms)
+{
+    for (int k = 0; k < JUSQANI_RECT_LENGTH; k++)
+        if (ohms[k] * STEPS_PER_OHM != (float)load[k])
+            return 0;
+    return 1;
+}
+
+int main(int argc, char **argv)
+{
+    uint8_t card[MAX_CARD];
+    int32_t curve[MAX_CURVE];
+    int32_t load[JUSQANI_RECT_LENGTH];
+    float ohms[JUSQANI_RECT_LENGTH];
+    if (argc < 3 || argc > 5) {
+        fprintf(stderr, "usage: %s NUM DEN [CURVE-LENGTH [LOAD-LENGTH]] < CARD\n", argv[0]);
+        return BAD_USAGE;
+    }
+    uint32_t num = argument(argv[1], UINT32_MAX);
+    uint32_t den = argument(argv[2], UINT32_MAX);
+    size_t curve_length = argc > 3 ? argument(argv[3], MAX_CURVE) : MAX_CURVE;
+    size_t load_length = argc > 4 ? argument(argv[4], JUSQANI_RECT_LENGTH) : JUSQANI_RECT_LENGTH;
+    size_t card_length = read_input(card);
+    uint64_t answer = jusqani_read_card(card, card_length, curve, curve_length);
+    if (answer == 0) {
+        size_t sides = (size_t)JUSQANI_CURVE_LENGTH(curve[0]) - 1;
+        answer = jusqani_evaluate((uint32_t)curve[0], curve + 1, sides, num, den, load, load_length, ohms, load_length);
+    }
+    if (answer != 0) {
+        show_refusal(answer);
+        return REFUSED;
+    }
+    if (!same_load(load, ohms)) {
+        printf("the load in ohms is not the load in steps\n");
+        return PROMISE_BROKEN;
+    }
+    printf("R %.15g to %.15g ohm, X %.15g to %.15g ohm\n", ohms[0], ohms[1], ohms[2], ohms[3]);
+    return 0;
+}

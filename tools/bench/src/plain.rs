@@ -1,0 +1,87 @@
+//! The plain side: what one would write by hand in Rust for the same slices and the same refusals. One
+//! table in place, sides of 32 bits, products of 64 bits, and one division for each side. It works out
+//! no ohms, which ours does.
+
+use crate::calls::CURVE_SIDES;
+use jusqani::{MAX_DEN, MAX_SIDE, PLACES, RECT_LENGTH};
+
+type Rect = [i32; RECT_LENGTH];
+type Points = [Rect; PLACES];
+
+fn points_of(sides: &[i32]) -> Points {
+    let mut points = [[0; RECT_LENGTH]; PLACES];
+    for (point, sides) in points.iter_mut().zip(sides.chunks_exact(RECT_LENGTH)) {
+        point.copy_from_slice(sides);
+    }
+    points
+}
+
+/// The refusal's number: 2 over all rectangles, 3 over all, then 4 and 5. The degree is fixed.
+fn refusal(points: &Points, num: u32, den: u32) -> u32 {
+    let limits = -MAX_SIDE..=MAX_SIDE;
+    if !points.iter().flatten().all(|side| limits.contains(side)) {
+        return 2;
+    }
+    if points.iter().any(|r| r[0] > r[1] || r[2] > r[3]) {
+        return 3;
+    }
+    if !(1..=MAX_DEN).contains(&den) {
+        return 4;
+    }
+    if num > den {
+        return 5;
+    }
+    0
+}
+
+/// The affine map of two rectangles at num/den, rounded outward.
+fn affine(num: i64, den: i64, a: &Rect, b: &Rect) -> Rect {
+    let sum = |side: usize| (den - num) * i64::from(a[side]) + num * i64::from(b[side]);
+    let low = |side: usize| sum(side).div_euclid(den) as i32;
+    let high = |side: usize| -(-sum(side)).div_euclid(den) as i32;
+    [low(0), high(1), low(2), high(3)]
+}
+
+/// One stage of de Casteljau's table in place: each of the first rectangles becomes the map of itself
+/// and the next.
+fn stage(points: &mut [Rect], num: u32, den: u32) {
+    for k in 1..points.len() {
+        points[k - 1] = affine(num.into(), den.into(), &points[k - 1], &points[k]);
+    }
+}
+
+fn store(points: &[Rect], out: &mut [i32]) {
+    for (out, point) in out.chunks_exact_mut(RECT_LENGTH).zip(points) {
+        out.copy_from_slice(point);
+    }
+}
+
+pub fn evaluate(sides: &[i32], num: u32, den: u32, out: &mut [i32]) -> u32 {
+    let mut points = points_of(sides);
+    let number = refusal(&points, num, den);
+    if number != 0 {
+        return number;
+    }
+    for length in (2..=PLACES).rev() {
+        stage(&mut points[..length], num, den);
+    }
+    store(&points[..1], out);
+    0
+}
+
+/// The first rectangle of each stage is the left piece; what the stages leave in place is the right one.
+pub fn subdivide(sides: &[i32], num: u32, den: u32, out: &mut [i32]) -> u32 {
+    let mut points = points_of(sides);
+    let number = refusal(&points, num, den);
+    if number != 0 {
+        return number;
+    }
+    let mut left = points;
+    for length in (2..=PLACES).rev() {
+        stage(&mut points[..length], num, den);
+        left[PLACES + 1 - length] = points[0];
+    }
+    store(&left, &mut out[..CURVE_SIDES]);
+    store(&points, &mut out[CURVE_SIDES..]);
+    0
+}

@@ -1,0 +1,115 @@
+//! Document 01's examples on the typed calls.
+
+use crate::*;
+
+const CARD: &[u8] = b"         1
+         0         1        -3        -3
+         1         3         0         2
+";
+
+/// A curve with these resistance values, low equal to high, and reactance zero.
+fn values(values: &[i32]) -> Curve {
+    let mut curve = Curve {
+        degree: values.len() as u32 - 1,
+        ..Curve::default()
+    };
+    for (point, value) in curve.points.iter_mut().zip(values) {
+        *point = [*value, *value, 0, 0].into();
+    }
+    curve
+}
+
+/// The resistance sides of a curve's rectangles.
+fn resistances(curve: Curve) -> Vec<[i32; 2]> {
+    let points = curve.control_points().iter();
+    points
+        .map(|point| [point.resistance.low, point.resistance.high])
+        .collect()
+}
+
+fn refused<T>(number: u32, place: u32) -> Result<T, Refusal> {
+    Err(Refusal { number, place })
+}
+
+#[test]
+fn evaluates_the_papers_card() {
+    let curve = Curve::read_card(CARD).unwrap();
+    let half = curve.evaluate(1, 2).unwrap();
+    assert_eq!(half.load, [0, 2, -2, 0].into());
+    assert_eq!(half.ohms, [0.0, 0.001953125, -0.001953125, 0.0]);
+    assert_eq!(curve.evaluate(2, 4), Ok(half));
+    assert_eq!(curve.evaluate(0, 1).unwrap().load, curve.points[0]);
+    assert_eq!(curve.evaluate(7, 7).unwrap().load, curve.points[1]);
+    assert_eq!(curve.bounds(), Ok([0, 3, -3, 2].into()));
+    assert_eq!(
+        values(&[-1, -1]).evaluate(0, 1).unwrap().ohms[0],
+        -0.0009765625
+    );
+}
+
+#[test]
+fn subdivides_and_elevates() {
+    let (left, right) = values(&[1, 0, 3]).subdivide(1, 2).unwrap();
+    assert_eq!(resistances(left), [[1, 1], [0, 1], [0, 2]]);
+    assert_eq!(resistances(right), [[0, 2], [1, 2], [3, 3]]);
+    assert_eq!(left.points[3..], [Rect::default(); 6]);
+    let raised = values(&[0, 0, -1]).elevate().unwrap();
+    assert_eq!(resistances(raised), [[0, 0], [0, 0], [-1, 0], [-1, -1]]);
+    assert_eq!(raised.degree, 3);
+    assert_eq!(values(&[0; 9]).elevate(), refused(6, 0));
+}
+
+#[test]
+fn searches_a_box() {
+    let curve = values(&[0, 4]);
+    let limits = Rect::from([0, 2, 0, 0]);
+    let outside = Verdict::Outside {
+        depth: 2,
+        index: 3,
+        count: 5,
+    };
+    assert_eq!(curve.search(limits, 2, 5), Ok(outside));
+    assert_eq!(curve.search(limits, 2, 4), Ok(Verdict::Spent { count: 4 }));
+    let undecided = Verdict::Undecided {
+        depth: 1,
+        index: 1,
+        count: 3,
+    };
+    assert_eq!(curve.search(limits, 1, 5), Ok(undecided));
+    let whole = Rect::from([0, 4, 0, 0]);
+    assert_eq!(
+        curve.search(whole, 12, 8191),
+        Ok(Verdict::Inside { count: 1 })
+    );
+    assert_eq!(curve.search([2, 0, 0, 0].into(), 2, 5), refused(7, 0));
+}
+
+#[test]
+fn writes_the_card_that_it_reads() {
+    let curve = Curve::read_card(CARD).unwrap();
+    assert_eq!(curve.card().unwrap(), CARD);
+    let mut card = [7; 95];
+    assert_eq!(curve.write_card(&mut card), Ok(93));
+    assert_eq!(card[93..], [7; 2]);
+    assert_eq!(curve.write_card(&mut card[..92]), refused(12, 93));
+    assert_eq!(Curve::read_card(&CARD[..92]), refused(10, 92));
+}
+
+#[test]
+fn refuses_along_the_limits() {
+    let end = values(&[0, MAX_SIDE]);
+    assert_eq!(end.evaluate(1, MAX_DEN).map(|_| ()), Ok(()));
+    assert_eq!(end.evaluate(1, 0), refused(4, 0));
+    assert_eq!(end.evaluate(0, MAX_DEN + 1), refused(4, 0));
+    assert_eq!(end.evaluate(8, 7), refused(5, 0));
+    assert_eq!(values(&[0, MAX_SIDE + 1]).bounds(), refused(2, 1));
+    assert_eq!(Curve::default().bounds(), refused(1, 0));
+}
+
+#[test]
+fn compares_curves_up_to_their_degree() {
+    let mut other = values(&[1, 2]);
+    other.points[2] = [5, 6, 7, 8].into();
+    assert_eq!(other, values(&[1, 2]));
+    assert_ne!(values(&[1, 2, 0]), values(&[1, 2]));
+}

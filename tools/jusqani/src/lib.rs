@@ -1,0 +1,16 @@
+//! Interval Bézier curves of an antenna's load: the proved calls of `include/jusqani.h`, by value and
+//! without unsafe code for the programs that use them. A side is a whole number of steps of 1/1,024 ohm.
+#![deny(unsafe_code)]
+
+mod curve;
+pub mod raw;
+mod refusal;
+
+pub use curve::{
+    card_length, curve_length, Curve, Evaluation, Interval, Rect, Verdict, CARD_LENGTH,
+    CURVE_LENGTH, MAX_DEGREE, MAX_DEN, MAX_SIDE, PLACES, RECT_LENGTH, VERDICT_LENGTH,
+};
+pub use refusal::Refusal;
+
+#[cfg(test)]
+mod examples;

@@ -1,0 +1,100 @@
+//! What a call refuses, and the header's words for it.
+
+use std::error::Error;
+use std::fmt;
+
+/// A refused call: what was refused, and where.
+#[derive(Clone, Copy, PartialEq, Eq, Debug)]
+pub struct Refusal {
+    pub number: u32,
+    pub place: u32,
+}
+
+impl Refusal {
+    /// The header's words for the number.
+    pub fn meaning(&self) -> &'static str {
+        match self.number {
+            1 => "the degree is not 1 to 8",
+            2 => "a side is out of range (16,384 ohms either way)",
+            3 => "a low side is above its high side",
+            4 => "den is not 1 to 65,536",
+            5 => "num is above den",
+            6 => "the degree is 8 and cannot be raised",
+            7 => "a box side is out of range, or its low side is above its high side",
+            8 => "depth is above 12",
+            9 => "budget is not 1 to 8,191",
+            10 => "the card's length is not the length for its degree",
+            11 => "a column is malformed, or a line does not end with byte 10",
+            12 => "a buffer for the result is too short",
+            _ => "not a refusal of this library",
+        }
+    }
+
+    /// A call's answer: 0 is success, any other is a refusal's number with its place above it.
+    #[inline]
+    pub(crate) fn check(answer: u64) -> Result<(), Refusal> {
+        if answer == 0 {
+            return Ok(());
+        }
+        Err(Refusal {
+            number: answer as u32,
+            place: (answer >> 32) as u32,
+        })
+    }
+}
+
+impl fmt::Display for Refusal {
+    fn fmt(&self, f: &mut fmt::Formatter) -> fmt::Result {
+        write!(f, "refused {}: {}", self.number, self.meaning())?;
+        match (self.number, self.place) {
+            (2 | 3, place) => write!(f, ", in rectangle {place}"),
+            (10, u32::MAX) => write!(f, ", it has {} bytes or more", u32::MAX),
+            (10, place) => write!(f, ", it has {place} bytes"),
+            (11, place) => write!(f, ", at offset {place}"),
+            (12, place) => write!(f, ", the length {place} is needed"),
+            _ => Ok(()),
+        }
+    }
+}
+
+impl Error for Refusal {}
+
+#[cfg(test)]
+mod tests {
+    use super::*;
+
+    fn shown(number: u32, place: u32) -> String {
+        Refusal { number, place }.to_string()
+    }
+
+    #[test]
+    fn says_what_and_where() {
+        assert_eq!(shown(1, 0), "refused 1: the degree is not 1 to 8");
+        assert_eq!(
+            shown(2, 3),
+            "refused 2: a side is out of range (16,384 ohms either way), in rectangle 3"
+        );
+        assert_eq!(
+            shown(10, 92),
+            "refused 10: the card's length is not the length for its degree, it has 92 bytes"
+        );
+        assert_eq!(
+            shown(11, 21),
+            "refused 11: a column is malformed, or a line does not end with byte 10, at offset 21"
+        );
+        assert_eq!(
+            shown(12, 16),
+            "refused 12: a buffer for the result is too short, the length 16 is needed"
+        );
+    }
+
+    #[test]
+    fn takes_number_and_place_off_an_answer() {
+        assert_eq!(Refusal::check(0), Ok(()));
+        let (number, place) = (10, u32::MAX);
+        assert_eq!(
+            Refusal::check(10 + (u64::from(u32::MAX) << 32)),
+            Err(Refusal { number, place })
+        );
+    }
+}

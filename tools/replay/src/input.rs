@@ -1,0 +1,238 @@
+//! The text of a run: cards and call lines off a stream, and where in the text they are.
+
+use std::io::{self, BufRead, Read};
+use std::mem;
+
+use jusqani::MAX_DEGREE;
+
+use crate::call::{Kind, Request};
+use crate::columns::{line_length, COLUMN, LINE_END};
+use crate::line::{line_end, number, Fault, Field};
+
+/// The degree on a card's first line.
+const DEGREE: Field = Field {
+    name: "the degree",
+    least: 1,
+    largest: MAX_DEGREE as i64,
+};
+
+/// The columns of a rectangle's line.
+const SIDES: usize = 4;
+
+/// Why no more can be taken from the text.
+#[derive(Debug)]
+pub enum Stop {
+    Malformed(Malformed),
+    Unreadable(io::Error),
+}
+
+impl From<io::Error> for Stop {
+    fn from(error: io::Error) -> Stop {
+        Stop::Unreadable(error)
+    }
+}
+
+/// A card or a call line that is malformed or cut short: the offset of its first byte, and what is
+/// wrong at which line and byte of the line, both counted from 1.
+#[derive(PartialEq, Debug)]
+pub struct Malformed {
+    pub offset: u64,
+    pub line: u64,
+    pub column: usize,
+    pub what: String,
+}
+
+/// A text off a stream. A line is read up to the bytes that it should have, and never past its end, so
+/// that no answer waits for input that it does not need. Once the stream has ended it is not read again:
+/// a terminal would wait for more.
+pub struct Input<R> {
+    source: R,
+    ended: bool,
+    line: Vec<u8>,
+    lines_passed: u64,
+    bytes_passed: u64,
+}
+
+impl<R: BufRead> Input<R> {
+    pub fn new(source: R) -> Input<R> {
+        Input {
+            source,
+            ended: false,
+            line: Vec::new(),
+            lines_passed: 0,
+            bytes_passed: 0,
+        }
+    }
+
+    /// The bytes of the next card, all of its columns well formed; none at the text's end.
+    pub fn card(&mut self) -> Result<Option<Vec<u8>>, Stop> {
+        let offset = self.bytes_passed;
+        self.extend_line(line_length(1))?;
+        if self.line.is_empty() {
+            return Ok(None);
+        }
+        let degree = degree_in(&self.line).map_err(|fault| self.malformed(offset, fault))?;
+        let mut card = self.pass_line();
+        for _ in 0..=degree {
+            self.extend_line(line_length(SIDES))?;
+            check_sides(&self.line).map_err(|fault| self.malformed(offset, fault))?;
+            card.extend(self.pass_line());
+        }
+        Ok(Some(card))
+    }
+
+    /// What the next line of a case asks for; none at the text's end.
+    pub fn request(&mut self) -> Result<Option<Request>, Stop> {
+        let offset = self.bytes_passed;
+        self.extend_line(COLUMN)?;
+        if self.line.is_empty() {
+            return Ok(None);
+        }
+        let kind = Kind::of(&self.line).map_err(|fault| self.malformed(offset, fault))?;
+        self.extend_line(line_length(kind.columns()))?;
+        let request = kind.request(&self.line);
+        let request = request.map_err(|fault| self.malformed(offset, fault))?;
+        self.pass_line();
+        Ok(Some(request))
+    }
+
+    /// Reads the line at hand on to so many bytes, or to its end or the text's.
+    fn extend_line(&mut self, length: usize) -> io::Result<()> {
+        if self.ended || self.line.last() == Some(&LINE_END) {
+            return Ok(());
+        }
+        let missing = length - self.line.len();
+        let mut rest = self.source.by_ref().take(missing as u64);
+        let came = rest.read_until(LINE_END, &mut self.line)?;
+        self.ended = came < missing && self.line.last() != Some(&LINE_END);
+        Ok(())
+    }
+
+    /// Goes on to the next line, and gives the bytes of this one.
+    fn pass_line(&mut self) -> Vec<u8> {
+        self.lines_passed += 1;
+        self.bytes_passed += self.line.len() as u64;
+        mem::take(&mut self.line)
+    }
+
+    /// A fault in the line at hand, which is of the card or call line that begins at an offset.
+    fn malformed(&self, offset: u64, fault: Fault) -> Stop {
+        Stop::Malformed(Malformed {
+            offset,
+            line: self.lines_passed + 1,
+            column: fault.at + 1,
+            what: fault.what,
+        })
+    }
+}
+
+/// The degree on a card's first line.
+fn degree_in(line: &[u8]) -> Result<u32, Fault> {
+    let degree = DEGREE.read(line, 0)?;
+    line_end(line, 1)?;
+    Ok(degree)
+}
+
+/// Checks the columns of a rectangle's line. The sides may be of any size: that is for the library.
+fn check_sides(line: &[u8]) -> Result<(), Fault> {
+    for k in 0..SIDES {
+        number(line, k)?;
+    }
+    line_end(line, SIDES)
+}
+
+#[cfg(test)]
+mod tests {
+    use super::*;
+    use crate::call::Call;
+    use std::io::BufReader;
+
+    const CARD: &str = "         1
+         0         1        -3        -3
+         1         3         0         2
+";
+
+    /// Takes a card and the calls behind it, up to what stops it.
+    fn stop_of(source: impl BufRead) -> Stop {
+        let mut input = Input::new(source);
+        let mut next = input.card().map(|_| ());
+        while next.is_ok() {
+            next = input.request().map(|request| assert!(request.is_some()));
+        }
+        next.unwrap_err()
+    }
+
+    /// The offset, line and column where a text is malformed.
+    fn malformed(text: &str) -> (u64, u64, usize) {
+        match stop_of(text.as_bytes()) {
+            Stop::Malformed(found) => (found.offset, found.line, found.column),
+            Stop::Unreadable(error) => panic!("{error}"),
+        }
+    }
+
+    #[test]
+    fn takes_cards_and_calls() {
+        let text = format!("{CARD}         5\n         0\n{CARD}");
+        let mut input = Input::new(text.as_bytes());
+        assert_eq!(input.card().unwrap().unwrap(), CARD.as_bytes());
+        let bounds = Request::Call(Call::Bounds);
+        assert_eq!(input.request().unwrap(), Some(bounds));
+        assert_eq!(input.request().unwrap(), Some(Request::Close));
+        assert_eq!(input.card().unwrap().unwrap(), CARD.as_bytes());
+        assert_eq!(input.request().unwrap(), None);
+        assert!(Input::new(&b""[..]).card().unwrap().is_none());
+    }
+
+    #[test]
+    fn finds_the_fault_in_a_card() {
+        assert_eq!(malformed("         9\n"), (0, 1, 1));
+        assert_eq!(malformed("         0\n"), (0, 1, 1));
+        assert_eq!(malformed("1\n"), (0, 1, 1));
+        assert_eq!(malformed("         1"), (0, 1, 11));
+        assert_eq!(malformed(&CARD[..11]), (0, 2, 1));
+        assert_eq!(malformed(&CARD[..40]), (0, 2, 21));
+        assert_eq!(malformed(&CARD[..92]), (0, 3, 41));
+        assert_eq!(malformed(&CARD.replace("-3\n", "3-\n")), (0, 2, 31));
+        assert_eq!(
+            malformed(&CARD.replace("         2\n", "         2 ")),
+            (0, 3, 41)
+        );
+    }
+
+    #[test]
+    fn finds_the_fault_in_a_call_line() {
+        let after = |line: &str| malformed(&format!("{CARD}         4\n{line}"));
+        assert_eq!(after("         7\n"), (104, 5, 1));
+        assert_eq!(after("\n"), (104, 5, 1));
+        assert_eq!(after("         1         1\n"), (104, 5, 21));
+        assert_eq!(after("         1         1         2"), (104, 5, 31));
+        assert_eq!(after("         5         5\n"), (104, 5, 11));
+    }
+
+    /// A stream that gives one byte at a time, and fails where it is read past its last.
+    struct ByteByByte<'a>(&'a [u8]);
+
+    impl Read for ByteByByte<'_> {
+        fn read(&mut self, buffer: &mut [u8]) -> io::Result<usize> {
+            if self.0.is_empty() {
+                return Err(io::Error::other("read on"));
+            }
+            self.0.read(&mut buffer[..1])
+        }
+    }
+
+    #[test]
+    fn reads_no_further_than_it_must() {
+        let text = format!("{CARD}         5\n         6         0\n");
+        for end in [93, 104, 125] {
+            let mut input = Input::new(BufReader::new(ByteByByte(&text.as_bytes()[..end])));
+            assert!(input.card().unwrap().is_some());
+            assert!(end == 93 || input.request().unwrap().is_some());
+            assert!(end < 125 || matches!(input.request(), Err(Stop::Malformed(_))));
+        }
+        let source = BufReader::new(ByteByByte(b"1\n"));
+        assert!(matches!(stop_of(source), Stop::Malformed(_)));
+        let source = BufReader::new(ByteByByte(b"         1\n"));
+        assert!(matches!(stop_of(source), Stop::Unreadable(_)));
+    }
+}

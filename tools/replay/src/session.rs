@@ -1,0 +1,215 @@
+//! A case as it runs: the curve that is left, its ledger, and the answer to each call.
+
+use jusqani::{Curve, Rect, Refusal, Verdict};
+
+use crate::call::Call;
+use crate::columns::{capped, columns_of};
+use crate::ledger::{Kept, Ledger, Place};
+
+/// The numbers of an answer, and the place of an accepted reading where it is shown.
+#[derive(PartialEq, Debug)]
+pub struct Answer {
+    numbers: Vec<i64>,
+    place: Option<Place>,
+}
+
+impl Answer {
+    fn of(numbers: Vec<i64>) -> Answer {
+        Answer {
+            numbers,
+            place: None,
+        }
+    }
+
+    fn refused(refusal: Refusal) -> Answer {
+        Answer::of(vec![refusal.number.into(), refusal.place.into()])
+    }
+
+    /// The answer's line.
+    pub fn line(&self) -> String {
+        let columns = columns_of(&self.numbers);
+        match &self.place {
+            Some(place) => format!("{columns}  {place}\n"),
+            None => format!("{columns}\n"),
+        }
+    }
+}
+
+/// What a case holds between two lines.
+pub struct Session {
+    curve: Curve,
+    ledger: Ledger,
+}
+
+impl Session {
+    /// Begins a case with a card whose columns are well formed. Such a card is accepted or refused with
+    /// 2 or 3, and a refused one leaves the zero curve.
+    pub fn open(card: &[u8], places: bool) -> (Session, Answer) {
+        let read = Curve::read_card(card);
+        let answer = read.map_or_else(Answer::refused, |curve| {
+            Answer::of(vec![0, curve.degree.into()])
+        });
+        let session = Session {
+            curve: read.unwrap_or_default(),
+            ledger: Ledger::open(places),
+        };
+        (session, answer)
+    }
+
+    /// The answer to a call. A refused call leaves the case as it was.
+    pub fn answer(&mut self, call: Call) -> Answer {
+        let answer = match call {
+            Call::Evaluate { num, den } => self.evaluate(num, den),
+            Call::Subdivide { num, den, kept } => self.subdivide(num, den, kept),
+            Call::Elevate => self.elevate(),
+            Call::Bounds => self.bounds(),
+            Call::Search {
+                limits,
+                depth,
+                budget,
+            } => self.search(limits, depth, budget),
+        };
+        answer.unwrap_or_else(Answer::refused)
+    }
+
+    fn evaluate(&self, num: u32, den: u32) -> Result<Answer, Refusal> {
+        let load = self.curve.evaluate(num, den)?.load;
+        let mut numbers = vec![0];
+        numbers.extend(sides(&[load]));
+        numbers.push(capped(self.ledger.sum(self.curve.degree)));
+        let place = self.ledger.place(num, den);
+        Ok(Answer { numbers, place })
+    }
+
+    fn subdivide(&mut self, num: u32, den: u32, kept: Kept) -> Result<Answer, Refusal> {
+        let (left, right) = self.curve.subdivide(num, den)?;
+        self.ledger.cut(self.curve.degree, num, den, kept);
+        self.curve = match kept {
+            Kept::Left => left,
+            Kept::Right => right,
+        };
+        let mut numbers = vec![0, left.degree.into()];
+        numbers.extend(sides(left.control_points()));
+        numbers.extend(sides(right.control_points()));
+        Ok(Answer::of(numbers))
+    }
+
+    fn elevate(&mut self) -> Result<Answer, Refusal> {
+        self.curve = self.curve.elevate()?;
+        self.ledger.raise();
+        let mut numbers = vec![0, self.curve.degree.into()];
+        numbers.extend(sides(self.curve.control_points()));
+        Ok(Answer::of(numbers))
+    }
+
+    fn bounds(&self) -> Result<Answer, Refusal> {
+        let mut numbers = vec![0];
+        numbers.extend(sides(&[self.curve.bounds()?]));
+        Ok(Answer::of(numbers))
+    }
+
+    fn search(&self, limits: Rect, depth: u32, budget: u32) -> Result<Answer, Refusal> {
+        let verdict = match self.curve.search(limits, depth, budget)? {
+            Verdict::Inside { count } => [1, 0, 0, count],
+            Verdict::Outside {
+                depth,
+                index,
+                count,
+            } => [2, depth, index, count],
+            Verdict::Spent { count } => [3, 0, 0, count],
+            Verdict::Undecided {
+                depth,
+                index,
+                count,
+            } => [4, depth, index, count],
+        };
+        let mut numbers = vec![0];
+        numbers.extend(verdict.map(i64::from));
+        Ok(Answer::of(numbers))
+    }
+}
+
+/// The sides of some rectangles, in their order.
+fn sides(rects: &[Rect]) -> impl Iterator<Item = i64> + '_ {
+    rects
+        .iter()
+        .flat_map(|rect| <[i32; 4]>::from(*rect).map(i64::from))
+}
+
+#[cfg(test)]
+mod tests {
+    use super::*;
+
+    const CARD: &[u8] = b"         1
+         0         1        -3        -3
+         1         3         0         2
+";
+
+    fn numbers(session: &mut Session, call: Call) -> Vec<i64> {
+        session.answer(call).numbers
+    }
+
+    fn evaluate(num: u32, den: u32) -> Call {
+        Call::Evaluate { num, den }
+    }
+
+    fn subdivide(num: u32, den: u32, kept: Kept) -> Call {
+        Call::Subdivide { num, den, kept }
+    }
+
+    #[test]
+    fn answers_each_call() {
+        let (mut session, answer) = Session::open(CARD, false);
+        assert_eq!(answer.numbers, [0, 1]);
+        assert_eq!(numbers(&mut session, evaluate(1, 2)), [0, 0, 2, -2, 0, 1]);
+        assert_eq!(numbers(&mut session, Call::Bounds), [0, 0, 3, -3, 2]);
+        let search = Call::Search {
+            limits: [0, 3, -3, 2].into(),
+            depth: 12,
+            budget: 1,
+        };
+        assert_eq!(numbers(&mut session, search), [0, 1, 0, 0, 1]);
+        let pieces = [0, 1, 0, 1, -3, -3, 0, 2, -2, 0, 0, 2, -2, 0, 1, 3, 0, 2];
+        assert_eq!(numbers(&mut session, subdivide(1, 2, Kept::Left)), pieces);
+        let raised = [0, 2, 0, 1, -3, -3, 0, 2, -3, -1, 0, 2, -2, 0];
+        assert_eq!(numbers(&mut session, Call::Elevate), raised);
+        assert_eq!(numbers(&mut session, evaluate(0, 1)), [0, 0, 1, -3, -3, 4]);
+    }
+
+    #[test]
+    fn goes_on_after_a_refused_call() {
+        let (mut session, _) = Session::open(CARD, true);
+        assert_eq!(numbers(&mut session, subdivide(8, 7, Kept::Left)), [5, 0]);
+        assert_eq!(numbers(&mut session, evaluate(1, 0)), [4, 0]);
+        let line = session.answer(evaluate(2, 4)).line();
+        assert_eq!(
+            line,
+            "         0         0         2        -2         0         1  1/2\n"
+        );
+    }
+
+    #[test]
+    fn goes_on_with_the_zero_curve() {
+        let card = String::from_utf8_lossy(CARD)
+            .replace("         0         2\n", "         9         2\n");
+        let (mut session, answer) = Session::open(card.as_bytes(), true);
+        assert_eq!(answer.line(), "         3         1\n");
+        for call in [Call::Bounds, Call::Elevate, evaluate(1, 0)] {
+            assert_eq!(numbers(&mut session, call), [1, 0]);
+        }
+    }
+
+    #[test]
+    fn shows_places_of_accepted_readings_only() {
+        let (mut session, answer) = Session::open(CARD, true);
+        assert_eq!(answer.place, None);
+        let cut = session.answer(subdivide(1, 3, Kept::Right));
+        assert_eq!(cut.place, None);
+        let read = session.answer(evaluate(1, 4)).line();
+        assert!(read.ends_with("         2  1/2\n"), "{read}");
+        assert_eq!(
+            session.answer(evaluate(5, 4)).line(),
+            "         5         0\n"
+        );
+    }
+}

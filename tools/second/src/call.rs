@@ -1,0 +1,21 @@
+//! The calls that a list is made of.
+
+use crate::model::Parameter;
+use crate::search::Search;
+
+/// Which piece of a subdivision is kept.
+#[derive(Clone, Copy, PartialEq, Debug)]
+pub enum Kept {
+    Left,
+    Right,
+}
+
+/// A call; the paper's names are reading, cut, raising, span and walk.
+#[derive(Clone, Copy, PartialEq, Debug)]
+pub enum Call {
+    Evaluate(Parameter),
+    Subdivide(Parameter, Kept),
+    Elevate,
+    Bounds,
+    Search(Search),
+}

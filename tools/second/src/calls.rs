@@ -1,0 +1,174 @@
+//! The five calls on a curve beside the model.
+
+use crate::coverage::{Line, Ohm, Row};
+use crate::door::{curve_length, FOUR, MODEL};
+use crate::given::Given;
+use crate::lent::{Lent, BEHIND};
+use crate::model::{Parameter, MAX_DEGREE, MAX_SIDE};
+use crate::search::Search;
+use crate::trial::{Counted, Outcome, Trial, SPARE};
+use std::cmp::Ordering;
+
+/// The room for a buffer of a rectangle or a verdict, and for one of a curve.
+const RECT_ROOM: usize = FOUR + SPARE + BEHIND;
+pub const CURVE_ROOM: usize = curve_length(MAX_DEGREE) + SPARE + BEHIND;
+
+const EVALUATE: Counted = Counted {
+    row: Row::Evaluate,
+    numbers: Line::EvaluateNumbers,
+    lengths: &[Line::EvaluateLoad, Line::EvaluateOhms],
+};
+const SUBDIVIDE: Counted = Counted {
+    row: Row::Subdivide,
+    numbers: Line::SubdivideNumbers,
+    lengths: &[Line::SubdivideLeft, Line::SubdivideRight],
+};
+const ELEVATE: Counted = Counted {
+    row: Row::Elevate,
+    numbers: Line::ElevateNumbers,
+    lengths: &[Line::ElevateRaised],
+};
+const BOUNDS: Counted = Counted {
+    row: Row::Bounds,
+    numbers: Line::BoundsNumbers,
+    lengths: &[Line::BoundsRect],
+};
+const SEARCH: Counted = Counted {
+    row: Row::Search,
+    numbers: Line::SearchNumbers,
+    lengths: &[Line::SearchVerdict],
+};
+
+impl Trial<'_> {
+    /// The load's sides.
+    pub fn evaluate(&mut self, given: &Given, t: Parameter) -> Result<Outcome<[i32; 4]>, String> {
+        let mut load: Lent<i32, RECT_ROOM> = self.lend("load", FOUR);
+        let mut ohms: Lent<f32, RECT_ROOM> = self.lend("ohms", FOUR);
+        let (degree, sides, Parameter { num, den }) = (given.degree, given.sides(), t);
+        let expected = (MODEL.evaluate)(degree, sides, num, den, load.expected(), ohms.expected());
+        let came = (self.door.evaluate)(degree, sides, num, den, load.came(), ohms.came());
+        let input = || format!("{given}\nat {num}/{den}");
+        let outcome = self.finish(&EVALUATE, [expected, came], FOUR, &[&load, &ohms], input)?;
+        Ok(outcome.map(|()| {
+            let sides = std::array::from_fn(|side| load.left()[side]);
+            self.count_given(given);
+            self.count_parameter(Line::EvaluateAt, t);
+            self.count_ohms(&sides);
+            sides
+        }))
+    }
+
+    fn count_ohms(&mut self, sides: &[i32; 4]) {
+        for side in sides {
+            let kind = match i64::from(*side) {
+                0 => Ohm::Zero,
+                side if side == -MAX_SIDE => Ohm::Least,
+                side if side == MAX_SIDE => Ohm::Greatest,
+                side if side < 0 => Ohm::Below,
+                _ => Ohm::Above,
+            };
+            self.tally.cover(Line::OhmKinds, kind as usize);
+        }
+    }
+
+    /// The left piece and the right piece.
+    pub fn subdivide(
+        &mut self,
+        given: &Given,
+        t: Parameter,
+    ) -> Result<Outcome<[Given; 2]>, String> {
+        let needed = given.curve_length();
+        let mut left: Lent<i32, CURVE_ROOM> = self.lend("left", needed);
+        let mut right: Lent<i32, CURVE_ROOM> = self.lend("right", needed);
+        let (degree, sides, Parameter { num, den }) = (given.degree, given.sides(), t);
+        let expected =
+            (MODEL.subdivide)(degree, sides, num, den, left.expected(), right.expected());
+        let came = (self.door.subdivide)(degree, sides, num, den, left.came(), right.came());
+        let input = || format!("{given}\nat {num}/{den}");
+        let outcome = self.finish(
+            &SUBDIVIDE,
+            [expected, came],
+            needed,
+            &[&left, &right],
+            input,
+        )?;
+        Ok(outcome.map(|()| {
+            self.count_given(given);
+            self.count_parameter(Line::SubdivideAt, t);
+            [&left, &right].map(|piece| Given::handed_on(piece.left()))
+        }))
+    }
+
+    /// The curve of one degree more.
+    pub fn elevate(&mut self, given: &Given) -> Result<Outcome<Given>, String> {
+        // At degree 8 there is no result; a buffer for a curve of that degree is lent.
+        let needed = curve_length(MAX_DEGREE.min(given.near_degree() + 1));
+        let mut raised: Lent<i32, CURVE_ROOM> = self.lend("raised", needed);
+        let (degree, sides) = (given.degree, given.sides());
+        let expected = (MODEL.elevate)(degree, sides, raised.expected());
+        let came = (self.door.elevate)(degree, sides, raised.came());
+        let input = || given.to_string();
+        let outcome = self.finish(&ELEVATE, [expected, came], needed, &[&raised], input)?;
+        Ok(outcome.map(|()| {
+            self.count_given(given);
+            Given::handed_on(raised.left())
+        }))
+    }
+
+    pub fn bounds(&mut self, given: &Given) -> Result<(), String> {
+        let mut rect: Lent<i32, RECT_ROOM> = self.lend("rect", FOUR);
+        let (degree, sides) = (given.degree, given.sides());
+        let expected = (MODEL.bounds)(degree, sides, rect.expected());
+        let came = (self.door.bounds)(degree, sides, rect.came());
+        let input = || given.to_string();
+        let outcome = self.finish(&BOUNDS, [expected, came], FOUR, &[&rect], input)?;
+        if outcome.is_ok() {
+            self.count_given(given);
+        }
+        Ok(())
+    }
+
+    pub fn search(&mut self, given: &Given, search: &Search) -> Result<(), String> {
+        let (limits, lent) = self.limits(search);
+        let limits = &limits[..lent];
+        let mut verdict: Lent<u32, RECT_ROOM> = self.lend("verdict", FOUR);
+        let (degree, sides) = (given.degree, given.sides());
+        let Search { depth, budget, .. } = *search;
+        let expected = (MODEL.search)(degree, sides, limits, depth, budget, verdict.expected());
+        let came = (self.door.search)(degree, sides, limits, depth, budget, verdict.came());
+        let input = || format!("{given}\nlimits {limits:?}, depth {depth}, budget {budget}");
+        let outcome = self.finish(&SEARCH, [expected, came], FOUR, &[&verdict], input)?;
+        if outcome.is_ok() {
+            self.count_given(given);
+            self.tally.cover(Line::SearchLimits, lent);
+            self.tally.cover(Line::SearchDepth, depth as usize);
+            self.tally.cover(Line::Verdicts, verdict.left()[0] as usize);
+        }
+        Ok(())
+    }
+
+    /// The slice of a search's box: mostly its four sides, or fewer, or some behind them.
+    fn limits(&mut self, search: &Search) -> ([i32; FOUR + SPARE], usize) {
+        let mut limits = [0; FOUR + SPARE];
+        for (k, side) in limits.iter_mut().enumerate() {
+            let drawn = self.rng.draw() as i32;
+            *side = search.limits.get(k).map_or(drawn, |side| *side as i32);
+        }
+        let lent = match self.rng.below(8) {
+            0 => self.rng.up_to(FOUR - 1),
+            1 => FOUR + 1 + self.rng.up_to(SPARE - 1),
+            _ => FOUR,
+        };
+        (limits, lent)
+    }
+
+    /// Counts the curve of an accepted call by the sides lent for it.
+    fn count_given(&mut self, given: &Given) {
+        let lent = match given.length.cmp(&(FOUR * (given.degree as usize + 1))) {
+            Ordering::Less => 0,
+            Ordering::Equal => 1,
+            Ordering::Greater => 2,
+        };
+        self.tally.cover(Line::SidesLent, lent);
+    }
+}

@@ -1,0 +1,163 @@
+//! Demand 3's claim at one accepted evaluation, tried with exact fractions: an ordinary curve's load
+//! lies within the sides, and no side is farther out than the exact one by more than the ledger's sum.
+
+use crate::ledger::Entry;
+use crate::model::{Curve, Rectangle};
+use crate::natural::{Integer, Natural};
+use crate::rng::Rng;
+
+/// An ordinary Bézier curve inside a curve's rectangles (the paper's ordinary curve): its control
+/// points' coordinates are these numbers over PARTS.
+pub struct Ordinary {
+    resistances: Vec<i64>,
+    reactances: Vec<i64>,
+}
+
+/// In how many parts an interval is divided, to choose a coordinate at its ends or between.
+const PARTS: i64 = 12;
+
+impl Ordinary {
+    /// `choose` gives, for each coordinate, how many parts of the way from low to high it lies.
+    pub fn inside(curve: &Curve, mut choose: impl FnMut() -> i64) -> Ordinary {
+        let mut chosen = |low: i64, high: i64| PARTS * low + (high - low) * choose();
+        let (mut resistances, mut reactances) = (Vec::new(), Vec::new());
+        for r in curve.control_points() {
+            resistances.push(chosen(r[0], r[1]));
+            reactances.push(chosen(r[2], r[3]));
+        }
+        Ordinary {
+            resistances,
+            reactances,
+        }
+    }
+
+    /// All lows, all highs, corners drawn, and points between drawn.
+    pub fn some_inside(curve: &Curve, rng: &mut Rng) -> Vec<Ordinary> {
+        vec![
+            Ordinary::inside(curve, || 0),
+            Ordinary::inside(curve, || PARTS),
+            Ordinary::inside(curve, || PARTS * rng.between(0, 1)),
+            Ordinary::inside(curve, || rng.between(0, PARTS)),
+        ]
+    }
+}
+
+/// The Bernstein weights of a degree at upper / lower, each over lower to the power of the degree.
+pub struct Bernstein {
+    weights: Vec<Natural>,
+    lower: Natural,
+}
+
+impl Bernstein {
+    pub fn at(degree: usize, upper: &Natural, lower: &Natural) -> Bernstein {
+        let powers = upper.powers(degree);
+        let others = lower.minus(upper).powers(degree);
+        let weight = |k: usize| {
+            powers[k]
+                .times(&others[degree - k])
+                .times(&binomial(degree, k))
+        };
+        let weights = (0..=degree).map(weight).collect();
+        Bernstein {
+            weights,
+            lower: lower.powers(degree).remove(degree),
+        }
+    }
+
+    /// The Bernstein sum of these points.
+    pub fn sum(&self, points: impl Iterator<Item = i64>) -> Integer {
+        let mut sum = Integer::zero();
+        for (point, weight) in points.zip(&self.weights) {
+            sum.add_product(point, weight);
+        }
+        sum
+    }
+
+    /// A whole number over the weights' lower number.
+    pub fn number(&self, number: i64) -> Integer {
+        Integer::product(number, &self.lower)
+    }
+
+    /// Whether both coordinates of the ordinary curve's load lie within the sides, edges included.
+    pub fn load_within(&self, ordinary: &Ordinary, sides: &Rectangle) -> bool {
+        let within = |points: &[i64], low: i64, high: i64| {
+            let load = self.sum(points.iter().copied());
+            self.number(PARTS * low).at_most(&load) && load.at_most(&self.number(PARTS * high))
+        };
+        within(&ordinary.resistances, sides[0], sides[1])
+            && within(&ordinary.reactances, sides[2], sides[3])
+    }
+}
+
+/// The binomial coefficient: the number of ways to choose k from n.
+fn binomial(n: usize, k: usize) -> Natural {
+    let counted = (0..k).fold(1, |ways, i| ways * (n - i) / (i + 1));
+    Natural::from(counted as u32)
+}
+
+/// Demand 3 at one accepted evaluation of a list of calls from `start`; the message says what fails.
+pub fn claim(
+    start: &Curve,
+    inside: &[Ordinary],
+    entry: &Entry,
+    read: &Rectangle,
+) -> Result<(), String> {
+    let weights = Bernstein::at(start.degree, &entry.upper, &entry.lower);
+    if !inside
+        .iter()
+        .all(|ordinary| weights.load_within(ordinary, read))
+    {
+        return Err(format!(
+            "an ordinary curve's load lies outside the rectangle read, {read:?}"
+        ));
+    }
+    for side in 0..4 {
+        let exact = weights.sum(start.control_points().iter().map(|r| r[side]));
+        let near = if side % 2 == 0 {
+            exact.at_most(&weights.number(read[side] + entry.sum))
+        } else {
+            weights.number(read[side] - entry.sum).at_most(&exact)
+        };
+        if !near {
+            return Err(format!(
+                "side {side} of {read:?} is more than {} steps too far out",
+                entry.sum
+            ));
+        }
+    }
+    Ok(())
+}
+
+#[cfg(test)]
+mod tests {
+    use super::*;
+    use crate::call::Call;
+    use crate::ledger::Ledger;
+    use crate::model::Parameter;
+
+    /// Values 1, 0, 3 at 1/2: the exact load is 1, and 2 steps are allowed.
+    #[test]
+    fn claims_neither_less_nor_more() {
+        let curve = Curve::new(&[[1, 1, 0, 0], [0, 0, 0, 0], [3, 3, 0, 0]]);
+        let inside = Ordinary::some_inside(&curve, &mut Rng::new(1));
+        let entry = Ledger::open(&curve)
+            .feed(&Call::Evaluate(Parameter { num: 1, den: 2 }))
+            .unwrap();
+        for low in -3..=3 {
+            for high in -1..=5 {
+                let holds = claim(&curve, &inside, &entry, &[low, high, 0, 0]).is_ok();
+                assert_eq!(
+                    holds,
+                    (-1..=1).contains(&low) && (1..=3).contains(&high),
+                    "{low} {high}"
+                );
+                let holds = claim(&curve, &inside, &entry, &[1, 1, low, high]).is_ok();
+                assert_eq!(
+                    holds,
+                    (-2..=0).contains(&low) && (0..=2).contains(&high),
+                    "{low} {high}"
+                );
+            }
+        }
+    }
+}

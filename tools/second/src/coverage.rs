@@ -1,0 +1,349 @@
+//! What a run compares and covers, and the least of it that it must: a change in what is drawn cannot
+//! quietly leave something out.
+
+use Line::*;
+use Row::*;
+use Values::*;
+
+/// What is compared.
+#[derive(Clone, Copy, PartialEq, Debug)]
+pub enum Row {
+    Evaluate,
+    Subdivide,
+    Elevate,
+    Bounds,
+    Search,
+    ReadCard,
+    WriteCard,
+    WrittenAgain,
+    BeyondWords,
+    Panel,
+    PanelAgain,
+    Claim,
+    CardExample,
+    CardProgram,
+    ReplayExamples,
+    ReplayTexts,
+    ReplayDamaged,
+    ReplayLong,
+    ReplaySlow,
+}
+
+/// Each row's name, and how many comparisons must agree.
+pub const ROWS: [(Row, &str, u64); 19] = [
+    (Evaluate, "evaluate", 2_000_000),
+    (Subdivide, "subdivide", 1_000_000),
+    (Elevate, "elevate", 500_000),
+    (Bounds, "bounds", 200_000),
+    (Search, "search", 500_000),
+    (ReadCard, "read_card", 300_000),
+    (WriteCard, "write_card", 200_000),
+    (WrittenAgain, "accepted cards written again", 100_000),
+    (BeyondWords, "buffers beyond 2^32 bytes", 6),
+    (Panel, "panel", 1_000_000),
+    (PanelAgain, "panel by read_card, evaluate", 1_000_000),
+    (Claim, "demand 3, readings", 200_000),
+    (CardExample, "card, example of document 01", 1),
+    (CardProgram, "card, cards", 500),
+    (ReplayExamples, "replay, examples", 13),
+    (ReplayTexts, "replay, texts", 100),
+    (ReplayDamaged, "replay, damaged texts", 500),
+    (ReplayLong, "replay, long texts", 1),
+    (ReplaySlow, "replay, slow pipe, answers", 50),
+];
+
+/// What the comparisons cover, one line for each kind of value.
+#[derive(Clone, Copy, PartialEq, Debug)]
+pub enum Line {
+    Degrees,
+    Reached,
+    SidesLent,
+    RefusedDegrees,
+    Calls,
+    OutOfRange,
+    Crossed,
+    ShortToo,
+    Fits,
+    EvaluateNumbers,
+    EvaluateAt,
+    EvaluateLoad,
+    EvaluateOhms,
+    OhmKinds,
+    SubdivideNumbers,
+    SubdivideAt,
+    SubdivideLeft,
+    SubdivideRight,
+    ElevateNumbers,
+    ElevateRaised,
+    BoundsNumbers,
+    BoundsRect,
+    SearchNumbers,
+    SearchVerdict,
+    SearchLimits,
+    SearchDepth,
+    Verdicts,
+    ReadNumbers,
+    ReadCurve,
+    ReadKinds,
+    ReadLengths,
+    ReadMalformed,
+    WriteNumbers,
+    WriteSound,
+    WriteRefused,
+    PanelNumbers,
+    PanelOut,
+    PanelAt,
+    Changes,
+    Refusals,
+    CardNumbers,
+    Endings,
+    Placed,
+}
+
+/// Where an accepted parameter lies, and which limit of den it meets.
+#[derive(Clone, Copy)]
+pub enum At {
+    Start,
+    End,
+    Between,
+    LeastDen,
+    GreatestDen,
+    OtherDen,
+}
+
+/// What a side in ohms is.
+#[derive(Clone, Copy)]
+pub enum Ohm {
+    Zero,
+    Below,
+    Above,
+    Least,
+    Greatest,
+}
+
+/// What a card is, and what of it is malformed.
+#[derive(Clone, Copy, PartialEq, Debug)]
+pub enum Kind {
+    Sound,
+    CutShort,
+    TooLong,
+    NoDegree,
+    Refused,
+}
+
+#[derive(Clone, Copy, PartialEq, Debug)]
+pub enum Malformed {
+    Degree,
+    DegreeLineEnd,
+    Side,
+    SideLineEnd,
+}
+
+/// The values of a line that must come: numbers from one to another, these numbers, or words.
+#[derive(Clone, Copy)]
+pub enum Values {
+    Span(usize, usize),
+    These(&'static [usize]),
+    Words(&'static [&'static str]),
+}
+
+/// The words of values that are counted by their place in the list: for the limits that a side reaches,
+/// the least counts 1 and the greatest 2.
+const REACHED: Values = Words(&["neither", "-16,777,216", "16,777,216", "both"]);
+const LENT: Values = Words(&["fewer", "as many", "more"]);
+const FITS: Values = Words(&["one short", "exact", "one more"]);
+/// In the order of the enums At, Ohm, Kind and Malformed.
+const AT: Values = Words(&["0", "1", "between", "den 1", "den 65,536", "den between"]);
+const OHMS: Values = Words(&["0", "below 0", "above 0", "-16,384", "16,384"]);
+const KINDS: Values = Words(&[
+    "sound",
+    "cut short",
+    "too long",
+    "without a degree",
+    "of the right length, but refused",
+]);
+const MALFORMED: Values = Words(&["degree", "its line end", "side", "a side's line end"]);
+const LENGTHS: Values = Words(&["0", "1 to 10", "11 to 380", "above 380"]);
+/// The refused degrees that are drawn, in draw's order.
+const REFUSED: Values = Words(&[
+    "0", "9", "10", "257", "65538", "2^31", "2^31 + 3", "2^32 - 1",
+]);
+const ENDINGS: Values = Words(&["after the text", "at a bad card or line"]);
+const PLACED: Values = Words(&["shown", "too long to show"]);
+
+/// The lines by what they are about: what is counted, the values and how often each must come.
+type Group = (&'static str, &'static [(Line, &'static str, Values, u64)]);
+
+pub const GROUPS: [Group; 11] = [
+    (
+        "curves given",
+        &[
+            (Degrees, "accepted by degree", Span(1, 8), 250_000),
+            (Reached, "accepted by limits reached", REACHED, 10_000),
+            (SidesLent, "accepted by sides lent", LENT, 10_000),
+            (RefusedDegrees, "refused degrees", REFUSED, 1_000),
+            (Calls, "lists by number of calls", Span(1, 6), 100_000),
+        ],
+    ),
+    (
+        "refusals",
+        &[
+            (OutOfRange, "places of 2", Span(0, 8), 1_000),
+            (Crossed, "places of 3", Span(0, 8), 1_000),
+            (ShortToo, "with a short buffer", Span(1, 11), 500),
+            (Fits, "shortest buffer, where it counts", FITS, 100_000),
+        ],
+    ),
+    (
+        "evaluate",
+        &[
+            (
+                EvaluateNumbers,
+                "answers",
+                These(&[0, 1, 2, 3, 4, 5, 12]),
+                1_000,
+            ),
+            (EvaluateAt, "accepted at", AT, 10_000),
+            (EvaluateLoad, "load lent", Span(0, 8), 1_000),
+            (EvaluateOhms, "ohms lent", Span(0, 8), 1_000),
+            (OhmKinds, "ohms stored", OHMS, 10_000),
+        ],
+    ),
+    (
+        "subdivide",
+        &[
+            (
+                SubdivideNumbers,
+                "answers",
+                These(&[0, 1, 2, 3, 4, 5, 12]),
+                1_000,
+            ),
+            (SubdivideAt, "accepted at", AT, 10_000),
+            (SubdivideLeft, "left lent", Span(0, 41), 1_000),
+            (SubdivideRight, "right lent", Span(0, 41), 1_000),
+        ],
+    ),
+    (
+        "elevate",
+        &[
+            (
+                ElevateNumbers,
+                "answers",
+                These(&[0, 1, 2, 3, 6, 12]),
+                1_000,
+            ),
+            (ElevateRaised, "raised lent", Span(0, 41), 1_000),
+        ],
+    ),
+    (
+        "bounds",
+        &[
+            (BoundsNumbers, "answers", These(&[0, 1, 2, 3, 12]), 1_000),
+            (BoundsRect, "rect lent", Span(0, 8), 500),
+        ],
+    ),
+    (
+        "search",
+        &[
+            (
+                SearchNumbers,
+                "answers",
+                These(&[0, 1, 2, 3, 7, 8, 9, 12]),
+                1_000,
+            ),
+            (SearchVerdict, "verdict lent", Span(0, 8), 500),
+            (SearchLimits, "accepted by limits lent", Span(0, 8), 1_000),
+            (SearchDepth, "accepted by depth limit", Span(0, 12), 500),
+            (Verdicts, "verdicts", Span(1, 4), 1_000),
+        ],
+    ),
+    (
+        "cards",
+        &[
+            (
+                ReadNumbers,
+                "read, answers",
+                These(&[0, 1, 2, 3, 10, 11, 12]),
+                1_000,
+            ),
+            (ReadCurve, "read, curve lent", Span(0, 41), 200),
+            (ReadKinds, "read, cards", KINDS, 10_000),
+            (ReadLengths, "read, places of 10", LENGTHS, 100),
+            (ReadMalformed, "read, places of 11", MALFORMED, 500),
+            (
+                WriteNumbers,
+                "written, answers",
+                These(&[0, 1, 2, 3, 12]),
+                500,
+            ),
+            (WriteSound, "written, card lent", Span(0, 400), 100),
+            (WriteRefused, "refused, card lent", Span(0, 400), 10),
+        ],
+    ),
+    (
+        "panel",
+        &[
+            (
+                PanelNumbers,
+                "answers",
+                These(&[0, 1, 2, 3, 4, 5, 10, 11, 12]),
+                1_000,
+            ),
+            (PanelOut, "out lent", Span(0, 20), 1_000),
+            (PanelAt, "accepted at", AT, 1_000),
+        ],
+    ),
+    (
+        "demand 3",
+        &[
+            (Changes, "changes before", Span(0, 5), 1_000),
+            (Refusals, "refused changes before", Span(0, 3), 500),
+        ],
+    ),
+    (
+        "programs",
+        &[
+            (
+                CardNumbers,
+                "card, answers",
+                These(&[0, 1, 2, 3, 10, 11]),
+                10,
+            ),
+            (Endings, "replay, damaged texts end", ENDINGS, 10),
+            (Placed, "replay, places", PLACED, 100),
+        ],
+    ),
+];
+
+impl Values {
+    /// Each value that must come, with its name.
+    pub fn named(self) -> Vec<(usize, String)> {
+        let numbered = |number: usize| (number, number.to_string());
+        match self {
+            Span(first, last) => (first..=last).map(numbered).collect(),
+            These(numbers) => numbers.iter().copied().map(numbered).collect(),
+            Words(words) => words
+                .iter()
+                .map(|word| word.to_string())
+                .enumerate()
+                .collect(),
+        }
+    }
+}
+
+#[cfg(test)]
+mod tests {
+    use super::*;
+    use crate::draw::REFUSED_DEGREES;
+
+    #[test]
+    fn has_every_row_and_line_once() {
+        let rows = ROWS.iter().map(|(row, ..)| *row as usize);
+        assert!(rows.eq(0..=ReplaySlow as usize));
+        let lines = GROUPS.iter().flat_map(|(_, lines)| lines.iter());
+        assert!(lines
+            .map(|(line, ..)| *line as usize)
+            .eq(0..=Placed as usize));
+        assert_eq!(REFUSED.named().len(), REFUSED_DEGREES.len());
+    }
+}

@@ -1,0 +1,267 @@
+//! The library's calls as include/jusqani.h has them, on slices: which curve and box a call is given,
+//! what it answers, and what it leaves in the buffers lent to it.
+
+use crate::card::{card_length, card_of, curve_of};
+use crate::model::{ohms, refuse_if, Curve, Parameter, Rectangle, Refusal, MAX_DEGREE};
+use crate::search::Search;
+
+/// A call on a curve at num/den, with two buffers for its result.
+pub type AtParameter<T> = fn(u32, &[i32], u32, u32, &mut [i32], &mut [T]) -> u64;
+/// A call on a curve alone, with one buffer for its result.
+pub type OnCurve<T> = fn(u32, &[i32], &mut [T]) -> u64;
+/// A search: a curve, a box, depth and budget, and the buffer for the verdict.
+pub type OnBox = fn(u32, &[i32], &[i32], u32, u32, &mut [u32]) -> u64;
+
+/// The eight calls, of the proved library or of the model.
+#[derive(Clone, Copy)]
+pub struct Door {
+    pub evaluate: AtParameter<f32>,
+    pub subdivide: AtParameter<i32>,
+    pub elevate: OnCurve<i32>,
+    pub bounds: OnCurve<i32>,
+    pub search: OnBox,
+    pub read_card: fn(&[u8], &mut [i32]) -> u64,
+    pub write_card: OnCurve<u8>,
+    pub panel: fn(&[u8], u32, u32, &mut [u8]) -> u32,
+}
+
+/// The calls as they must be.
+pub const MODEL: Door = Door {
+    evaluate,
+    subdivide,
+    elevate,
+    bounds,
+    search,
+    read_card,
+    write_card,
+    panel,
+};
+
+/// The lengths of a result: a rectangle or a verdict, and the panel call's four sides of four bytes.
+pub const FOUR: usize = 4;
+pub const PANEL_BYTES: usize = 16;
+
+/// The numbers of a curve that a call gives: its degree, then its sides.
+pub const fn curve_length(degree: usize) -> usize {
+    1 + 4 * (degree + 1)
+}
+
+/// The curve that a call is given: sides that the slice does not have count as zero, and sides past
+/// rectangle n are not read.
+pub fn given_curve(degree: u32, sides: &[i32]) -> Curve {
+    let mut curve = Curve::ZERO;
+    curve.degree = degree as usize;
+    let read = sides.iter().zip(curve.points.as_flattened_mut());
+    for (side, place) in read.take(4 * (MAX_DEGREE.min(curve.degree) + 1)) {
+        *place = (*side).into();
+    }
+    curve
+}
+
+/// The box that a search is given: sides that the slice does not have count as zero.
+pub fn given_limits(limits: &[i32]) -> Rectangle {
+    std::array::from_fn(|side| limits.get(side).copied().unwrap_or(0).into())
+}
+
+/// A refusal's number in the low 32 bits and its place in the high ones, 2^32 - 1 for a larger place.
+fn answer(result: Result<(), Refusal>) -> u64 {
+    let Err(Refusal { number, place }) = result else {
+        return 0;
+    };
+    let place = u32::try_from(place).unwrap_or(u32::MAX);
+    u64::from(number) | (u64::from(place) << 32)
+}
+
+/// Refusal 12, where one of the buffers lent is shorter than the result.
+fn need(length: usize, lent: &[usize]) -> Result<(), Refusal> {
+    refuse_if(lent.iter().any(|lent| *lent < length), 12, length)
+}
+
+fn store(numbers: &[i64], buffer: &mut [i32]) {
+    for (number, place) in numbers.iter().zip(buffer) {
+        *place = *number as i32;
+    }
+}
+
+fn store_curve(curve: &Curve, buffer: &mut [i32]) {
+    buffer[0] = curve.degree as i32;
+    store(curve.control_points().as_flattened(), &mut buffer[1..]);
+}
+
+fn evaluate(
+    degree: u32,
+    sides: &[i32],
+    num: u32,
+    den: u32,
+    load: &mut [i32],
+    display: &mut [f32],
+) -> u64 {
+    let mut result = || {
+        let sides = given_curve(degree, sides).evaluate(Parameter { num, den })?;
+        need(FOUR, &[load.len(), display.len()])?;
+        store(&sides, load);
+        display[..FOUR].copy_from_slice(&ohms(&sides));
+        Ok(())
+    };
+    answer(result())
+}
+
+fn subdivide(
+    degree: u32,
+    sides: &[i32],
+    num: u32,
+    den: u32,
+    left: &mut [i32],
+    right: &mut [i32],
+) -> u64 {
+    let mut result = || {
+        let curve = given_curve(degree, sides);
+        let (up_to, from) = curve.subdivide(Parameter { num, den })?;
+        need(curve_length(curve.degree), &[left.len(), right.len()])?;
+        store_curve(&up_to, left);
+        store_curve(&from, right);
+        Ok(())
+    };
+    answer(result())
+}
+
+fn elevate(degree: u32, sides: &[i32], raised: &mut [i32]) -> u64 {
+    let mut result = || {
+        let elevated = given_curve(degree, sides).elevate()?;
+        need(curve_length(elevated.degree), &[raised.len()])?;
+        store_curve(&elevated, raised);
+        Ok(())
+    };
+    answer(result())
+}
+
+fn bounds(degree: u32, sides: &[i32], rect: &mut [i32]) -> u64 {
+    let mut result = || {
+        let span = given_curve(degree, sides).bounds()?;
+        need(FOUR, &[rect.len()])?;
+        store(&span, rect);
+        Ok(())
+    };
+    answer(result())
+}
+
+fn search(
+    degree: u32,
+    sides: &[i32],
+    limits: &[i32],
+    depth: u32,
+    budget: u32,
+    verdict: &mut [u32],
+) -> u64 {
+    let mut result = || {
+        let search = Search {
+            limits: given_limits(limits),
+            depth,
+            budget,
+        };
+        let found = search.over(&given_curve(degree, sides))?;
+        need(FOUR, &[verdict.len()])?;
+        verdict[..FOUR].copy_from_slice(&found);
+        Ok(())
+    };
+    answer(result())
+}
+
+fn read_card(card: &[u8], curve: &mut [i32]) -> u64 {
+    let mut result = || {
+        let read = curve_of(card)?;
+        need(curve_length(read.degree), &[curve.len()])?;
+        store_curve(&read, curve);
+        Ok(())
+    };
+    answer(result())
+}
+
+fn write_card(degree: u32, sides: &[i32], card: &mut [u8]) -> u64 {
+    let mut result = || {
+        let curve = given_curve(degree, sides);
+        curve.check()?;
+        let length = card_length(curve.degree);
+        need(length, &[card.len()])?;
+        card[..length].copy_from_slice(&card_of(&curve));
+        Ok(())
+    };
+    answer(result())
+}
+
+fn panel(card: &[u8], num: u32, den: u32, out: &mut [u8]) -> u32 {
+    let mut result = || {
+        let load = curve_of(card)?.evaluate(Parameter { num, den })?;
+        need(PANEL_BYTES, &[out.len()])?;
+        for (side, bytes) in load.iter().zip(out.chunks_mut(4)) {
+            bytes.copy_from_slice(&(*side as i32).to_le_bytes());
+        }
+        Ok(())
+    };
+    result().map_or_else(|refusal: Refusal| refusal.number, |()| 0)
+}
+
+#[cfg(test)]
+mod tests {
+    use super::*;
+    use crate::programs::examples::CARD;
+
+    const SIDES: [i32; 8] = [0, 1, -3, -3, 1, 3, 0, 2];
+
+    #[test]
+    fn stores_in_front_and_keeps_the_rest() {
+        let (mut load, mut display) = ([7; 5], [7.0; 5]);
+        assert_eq!(evaluate(1, &SIDES, 1, 2, &mut load, &mut display), 0);
+        assert_eq!(load, [0, 2, -2, 0, 7]);
+        assert_eq!(display, [0.0, 2.0 / 1_024.0, -2.0 / 1_024.0, 0.0, 7.0]);
+        let (mut left, mut right) = ([7; 10], [7; 9]);
+        assert_eq!(subdivide(1, &SIDES, 1, 2, &mut left, &mut right), 0);
+        assert_eq!(left, [1, 0, 1, -3, -3, 0, 2, -2, 0, 7]);
+        assert_eq!(right, [1, 0, 2, -2, 0, 1, 3, 0, 2]);
+        let mut out = [7; 20];
+        assert_eq!(panel(CARD, 1, 2, &mut out), 0);
+        let sides = [0, 0, 0, 0, 2, 0, 0, 0, 254, 255, 255, 255, 0, 0, 0, 0];
+        assert_eq!((&out[..16], &out[16..]), (&sides[..], &[7; 4][..]));
+    }
+
+    #[test]
+    fn tries_the_buffers_last_and_says_what_is_needed() {
+        let place = |place: u64, number: u64| (place << 32) | number;
+        let (mut short, mut enough) = ([7; 8], [7; 9]);
+        assert_eq!(
+            subdivide(1, &SIDES, 1, 2, &mut short, &mut enough),
+            place(9, 12)
+        );
+        assert_eq!(
+            subdivide(1, &SIDES, 1, 2, &mut enough, &mut short),
+            place(9, 12)
+        );
+        assert_eq!(subdivide(1, &SIDES, 3, 2, &mut short, &mut enough), 5);
+        assert_eq!(elevate(1, &SIDES, &mut enough), place(13, 12));
+        assert_eq!(bounds(1, &SIDES, &mut []), place(4, 12));
+        assert_eq!(write_card(1, &SIDES, &mut [0; 92]), place(93, 12));
+        assert_eq!((short, enough), ([7; 8], [7; 9]));
+        let mut out = [7; 15];
+        assert_eq!(panel(CARD, 1, 2, &mut out), 12);
+        assert_eq!(panel(CARD, 3, 2, &mut out), 5);
+        assert_eq!(panel(&CARD[..92], 3, 2, &mut out), 10);
+        assert_eq!(out, [7; 15]);
+    }
+
+    #[test]
+    fn counts_missing_sides_as_zero_and_reads_none_past_the_curve() {
+        let mut rect = [0; 4];
+        assert_eq!(bounds(2, &SIDES[..6], &mut rect), 0);
+        assert_eq!(rect, [0, 3, -3, 0]);
+        assert_eq!(
+            bounds(1, &[SIDES.as_slice(), &[i32::MIN; 40]].concat(), &mut rect),
+            0
+        );
+        assert_eq!(rect, [0, 3, -3, 2]);
+        for degree in [0, 9, 257, u32::MAX] {
+            assert_eq!(bounds(degree, &[i32::MIN; 50], &mut []), 1, "{degree}");
+        }
+        assert_eq!(given_limits(&[1, 2]), [1, 2, 0, 0]);
+        assert_eq!(given_limits(&[1, 2, 3, 4, 5]), [1, 2, 3, 4]);
+    }
+}

@@ -1,0 +1,280 @@
+//! What is drawn from a fixed seed: curves, parameters, boxes and lists of calls.
+
+use crate::call::{Call, Kept};
+use crate::given::{Given, MAX_SIDES};
+use crate::model::{Curve, Parameter, Rectangle, MAX_DEGREE, MAX_DEN, MAX_SIDE};
+use crate::rng::Rng;
+use crate::search::{Search, MAX_BUDGET, MAX_DEPTH};
+
+pub fn degree(rng: &mut Rng) -> usize {
+    1 + rng.up_to(MAX_DEGREE - 1)
+}
+
+/// An accepted curve.
+pub fn curve(rng: &mut Rng, degree: usize) -> Curve {
+    let style = rng.below(7);
+    let mut curve = Curve::ZERO;
+    curve.degree = degree;
+    for point in &mut curve.points[..=degree] {
+        let (resistance, reactance) = (sides(rng, style), sides(rng, style));
+        *point = [resistance.0, resistance.1, reactance.0, reactance.1];
+    }
+    curve
+}
+
+/// A low and a high.
+fn sides(rng: &mut Rng, style: u64) -> (i64, i64) {
+    let width = |low: i64, width: i64| (low, (low + width).min(MAX_SIDE));
+    let sorted = |a: i64, b: i64| (a.min(b), a.max(b));
+    let mut any = || rng.between(-MAX_SIDE, MAX_SIDE);
+    match style {
+        // A few steps, where every rounding shows.
+        0 => width(rng.between(-4, 4), rng.between(0, 3)),
+        // Values: low equal to high.
+        1 => width(rng.between(-9, 9), 0),
+        2 => width(any(), 0),
+        // A measurement within its margin.
+        3 => width(rng.between(-500_000, 500_000), rng.between(0, 3_000)),
+        4 => sorted(any(), any()),
+        5 => sorted(about_a_power_of_ten(rng), about_a_power_of_ten(rng)),
+        _ => sorted(extreme(rng), extreme(rng)),
+    }
+}
+
+/// A side where a card's number gets one digit more.
+fn about_a_power_of_ten(rng: &mut Rng) -> i64 {
+    let power = 10_i64.pow(rng.up_to(7) as u32);
+    rng.pick(&[-1, 1]) * (power + rng.between(-1, 1))
+}
+
+fn extreme(rng: &mut Rng) -> i64 {
+    rng.pick(&[-MAX_SIDE, 1 - MAX_SIDE, -1, 0, 1, MAX_SIDE - 1, MAX_SIDE])
+}
+
+/// Sides out of range: just so, and at the ends of 32 bits.
+pub const TOO_FAR_FOR_A_CALL: [i64; 6] = [
+    MAX_SIDE + 1,
+    -MAX_SIDE - 1,
+    999_999_999,
+    -999_999_999,
+    2_147_483_647,
+    -2_147_483_648,
+];
+/// The same for a card, past the ends of 32 bits and as far as a column goes.
+pub const TOO_FAR_FOR_A_CARD: [i64; 6] = [
+    MAX_SIDE + 1,
+    -MAX_SIDE - 1,
+    -999_999_999,
+    2_147_483_648,
+    4_294_967_297,
+    9_999_999_999,
+];
+
+/// Puts sides out of range, or a low above its high, in one to three points.
+pub fn spoil(rng: &mut Rng, curve: &mut Curve, too_far: &[i64]) {
+    for _ in 0..rng.between(1, 3) {
+        let k = rng.up_to(curve.degree);
+        let low = rng.pick(&[0, 2]);
+        let high_side = curve.points[k][low + 1];
+        if rng.one_in(2) {
+            curve.points[k][low] = (high_side + rng.between(1, 3)).min(MAX_SIDE);
+        } else {
+            curve.points[k][low + rng.up_to(1)] = rng.pick(too_far);
+        }
+    }
+}
+
+/// Degrees that are refused, some of them with a degree in their low bits.
+pub const REFUSED_DEGREES: [u32; 8] = [0, 9, 10, 257, 65_538, 1 << 31, (1 << 31) + 3, u32::MAX];
+
+/// A curve as a call is given it: one in twelve is spoilt, some have another degree, and the slice of
+/// sides is now and then shorter or longer than the curve.
+pub fn given(rng: &mut Rng, degree: usize) -> Given {
+    let mut curve = curve(rng, degree);
+    if rng.one_in(12) {
+        spoil(rng, &mut curve, &TOO_FAR_FOR_A_CALL);
+    }
+    let mut given = Given::exact(&curve);
+    if rng.one_in(64) {
+        given.degree = rng.pick(&REFUSED_DEGREES);
+    }
+    match rng.below(32) {
+        0 => given.length = rng.up_to(given.length - 1),
+        1..=8 => lengthen(rng, &mut given),
+        _ => {}
+    }
+    given
+}
+
+/// Puts sides behind those of the curve, mostly such as would be refused.
+fn lengthen(rng: &mut Rng, given: &mut Given) {
+    let most = (given.length + 8).min(MAX_SIDES);
+    let longer = rng.between(given.length as i64 + 1, most as i64) as usize;
+    for side in &mut given.sides[given.length..longer] {
+        *side = rng.draw() as i32;
+    }
+    given.length = longer;
+}
+
+/// A parameter, one in twelve of them refused.
+pub fn parameter(rng: &mut Rng) -> Parameter {
+    if rng.one_in(12) {
+        return refused_parameter(rng);
+    }
+    let den = match rng.below(5) {
+        0 => 2 * rng.between(1, 3),
+        1 => rng.between(1, 10),
+        2 => MAX_DEN.into(),
+        _ => rng.between(1, MAX_DEN.into()),
+    };
+    let num = match rng.below(8) {
+        0 => 0,
+        1 => den,
+        2 | 3 => den / 2,
+        _ => rng.between(0, den),
+    };
+    let (num, den) = (num as u32, den as u32);
+    Parameter { num, den }
+}
+
+fn refused_parameter(rng: &mut Rng) -> Parameter {
+    let den = rng.between(1, MAX_DEN.into()) as u32;
+    let (num, den) = rng.pick(&[
+        (0, 0),
+        (1, 0),
+        (0, MAX_DEN + 1),
+        (u32::MAX, MAX_DEN + 1),
+        (1, u32::MAX),
+        (den + 1, den),
+        (MAX_DEN + 1, den),
+        (u32::MAX, den),
+    ]);
+    Parameter { num, den }
+}
+
+/// The most calls of a list.
+pub const MAX_CALLS: usize = 6;
+
+/// A list of calls; one in eight changes the curve at every call but the last, which evaluates it.
+pub fn list(rng: &mut Rng, bounds: &Rectangle) -> Vec<Call> {
+    let length = 1 + rng.up_to(MAX_CALLS - 1);
+    if !rng.one_in(8) {
+        return (0..length).map(|_| call(rng, bounds)).collect();
+    }
+    let mut calls: Vec<Call> = (1..length).map(|_| changing_call(rng)).collect();
+    calls.push(Call::Evaluate(parameter(rng)));
+    calls
+}
+
+fn call(rng: &mut Rng, bounds: &Rectangle) -> Call {
+    match rng.below(20) {
+        0..=7 => Call::Evaluate(parameter(rng)),
+        8..=15 => changing_call(rng),
+        16 => Call::Bounds,
+        _ => Call::Search(search(rng, bounds)),
+    }
+}
+
+/// A call that leaves another curve than it got, unless it is refused.
+fn changing_call(rng: &mut Rng) -> Call {
+    match rng.below(3) {
+        0 => Call::Subdivide(parameter(rng), Kept::Left),
+        1 => Call::Subdivide(parameter(rng), Kept::Right),
+        _ => Call::Elevate,
+    }
+}
+
+/// A search; to save time few are deep, and few of those have a large budget.
+fn search(rng: &mut Rng, bounds: &Rectangle) -> Search {
+    let limits = if rng.one_in(20) {
+        refused_limits(rng)
+    } else {
+        limits(rng, bounds)
+    };
+    let (depth, most) = match rng.below(400) {
+        0..=11 => (rng.pick(&[13, 14, u32::MAX]), MAX_BUDGET),
+        12 => (rng.between(6, MAX_DEPTH.into()) as u32, MAX_BUDGET),
+        13..=24 => (rng.between(6, MAX_DEPTH.into()) as u32, 200),
+        _ => (rng.up_to(5) as u32, MAX_BUDGET),
+    };
+    let budget = match rng.below(20) {
+        0 => rng.pick(&[0, MAX_BUDGET + 1, u32::MAX]),
+        1..=3 => 1 + rng.up_to(8) as u32,
+        4..=6 => 1 + rng.up_to(126) as u32,
+        _ => most,
+    };
+    Search {
+        limits,
+        depth,
+        budget,
+    }
+}
+
+/// A box near the bounds of the curve, so that every verdict comes.
+fn limits(rng: &mut Rng, bounds: &Rectangle) -> Rectangle {
+    let mut limits = *bounds;
+    let style = rng.below(6);
+    for (low, high) in [(0, 1), (2, 3)] {
+        let width = bounds[high] - bounds[low];
+        match style {
+            // The bounds themselves, or wider.
+            0 => {
+                let grown = rng.pick(&[0, 0, 1, 1_000]);
+                limits[low] = (bounds[low] - grown).max(-MAX_SIDE);
+                limits[high] = (bounds[high] + grown).min(MAX_SIDE);
+            }
+            // Small, about a point of the bounds.
+            1 => {
+                limits[low] = rng.between(bounds[low], bounds[high]);
+                limits[high] = (limits[low] + width / 8).min(MAX_SIDE);
+            }
+            // Narrower at one end or both, or not at all.
+            _ => {
+                limits[low] += width / rng.pick(&[2, 3, 8, 64, 1 << 40, 1 << 40]);
+                limits[high] -= width / rng.pick(&[2, 3, 8, 64, 1 << 40, 1 << 40]);
+            }
+        }
+    }
+    limits
+}
+
+fn refused_limits(rng: &mut Rng) -> Rectangle {
+    rng.pick(&[
+        [1, 0, 0, 0],
+        [0, 0, 1, 0],
+        [-MAX_SIDE - 1, 0, 0, 0],
+        [0, MAX_SIDE + 1, 0, 0],
+        [0, 0, -999_999_999, 0],
+        [0, 0, 0, 2_147_483_647],
+        [MAX_SIDE + 1, 0, 0, 0],
+    ])
+}
+
+#[cfg(test)]
+mod tests {
+    use super::*;
+
+    /// Of 8,000 curves some 410 are refused with 2, some 230 with 3 and some 125 with 1.
+    #[test]
+    fn draws_accepted_and_refused_curves() {
+        let mut rng = Rng::new(3);
+        let mut numbers = [0; 4];
+        for k in 0..8_000 {
+            let checked = given(&mut rng, 1 + k % 8).curve().check();
+            numbers[checked.map_or_else(|refusal| refusal.number as usize, |()| 0)] += 1;
+        }
+        let [accepted, refused @ ..] = numbers;
+        assert!(accepted > 7_000, "{numbers:?}");
+        assert!(refused.iter().all(|times| *times > 80), "{numbers:?}");
+    }
+
+    #[test]
+    fn draws_a_box_in_range() {
+        let mut rng = Rng::new(4);
+        for k in 0..8_000 {
+            let bounds = curve(&mut rng, 1 + k % 8).bounds().unwrap();
+            let drawn = limits(&mut rng, &bounds);
+            assert_eq!(Curve::new(&[drawn, bounds]).check(), Ok(()), "{drawn:?}");
+        }
+    }
+}

@@ -1,0 +1,84 @@
+//! A curve as a call is given it: a degree, and a slice of sides that may be too short or too long.
+
+use crate::door::{curve_length, given_curve};
+use crate::model::{Curve, MAX_DEGREE};
+use std::fmt;
+
+/// The most sides lent: those of the highest degree, and a few that are not to be read.
+pub const MAX_SIDES: usize = 44;
+
+#[derive(Clone, Copy, Debug)]
+pub struct Given {
+    pub degree: u32,
+    pub sides: [i32; MAX_SIDES],
+    pub length: usize,
+}
+
+impl Given {
+    /// A curve with just its sides, which must be 32-bit numbers.
+    pub fn exact(curve: &Curve) -> Given {
+        let mut given = Given {
+            degree: curve.degree as u32,
+            sides: [0; MAX_SIDES],
+            length: 4 * (curve.degree + 1),
+        };
+        let sides = curve.control_points().as_flattened();
+        for (side, place) in sides.iter().zip(&mut given.sides) {
+            *place = *side as i32;
+        }
+        given
+    }
+
+    /// A curve that a call gave, handed on with all that lies past it in the buffer.
+    pub fn handed_on(buffer: &[i32]) -> Given {
+        let (degree, sides) = buffer.split_first().expect("a curve's degree");
+        let mut given = Given {
+            degree: *degree as u32,
+            sides: [0; MAX_SIDES],
+            length: sides.len(),
+        };
+        given.sides[..sides.len()].copy_from_slice(sides);
+        given
+    }
+
+    pub fn sides(&self) -> &[i32] {
+        &self.sides[..self.length]
+    }
+
+    /// The curve that this is.
+    pub fn curve(&self) -> Curve {
+        given_curve(self.degree, self.sides())
+    }
+
+    /// The degree, or the nearest that a curve can have.
+    pub fn near_degree(&self) -> usize {
+        (self.degree as usize).clamp(1, MAX_DEGREE)
+    }
+
+    /// The length of a curve of this degree, where a call gives one.
+    pub fn curve_length(&self) -> usize {
+        curve_length(self.near_degree())
+    }
+}
+
+impl fmt::Display for Given {
+    fn fmt(&self, f: &mut fmt::Formatter) -> fmt::Result {
+        let Given { degree, length, .. } = self;
+        write!(f, "degree {degree}, {length} sides {:?}", self.sides())
+    }
+}
+
+#[cfg(test)]
+mod tests {
+    use super::*;
+
+    #[test]
+    fn is_the_curve_that_it_was_made_from() {
+        let curve = Curve::new(&[[0, 1, -3, -3], [1, 3, 0, 2]]);
+        assert_eq!(Given::exact(&curve).curve(), curve);
+        let mut buffer = [1, 0, 1, -3, -3, 1, 3, 0, 2, 99, 99];
+        assert_eq!(Given::handed_on(&buffer).curve(), curve);
+        buffer[0] = 300;
+        assert_eq!(Given::handed_on(&buffer).curve().degree, 300);
+    }
+}

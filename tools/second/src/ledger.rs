@@ -1,0 +1,115 @@
+//! The ledger of demand 3 (the paper's book of places and sums), with exact fractions.
+
+use crate::call::{Call, Kept};
+use crate::model::{Curve, Parameter, MAX_DEGREE};
+use crate::natural::Natural;
+
+/// A degree, the start and width of the stretch that is left of the starting curve's, and a sum of
+/// steps. Start and width are over one common lower number.
+pub struct Ledger {
+    degree: usize,
+    start: Natural,
+    width: Natural,
+    lower: Natural,
+    sum: i64,
+}
+
+/// What the ledger says of an accepted evaluation: its place, upper over lower, and its sum of steps.
+pub struct Entry {
+    pub upper: Natural,
+    pub lower: Natural,
+    pub sum: i64,
+}
+
+impl Ledger {
+    pub fn open(curve: &Curve) -> Ledger {
+        let (start, width, lower) = (0.into(), 1.into(), 1.into());
+        Ledger {
+            degree: curve.degree,
+            start,
+            width,
+            lower,
+            sum: 0,
+        }
+    }
+
+    /// Feeds the ledger a call, but none of its answer. An accepted evaluation has an entry.
+    pub fn feed(&mut self, call: &Call) -> Option<Entry> {
+        match call {
+            Call::Evaluate(t) => return t.check().is_ok().then(|| self.entry(*t)),
+            Call::Subdivide(t, kept) if t.check().is_ok() => self.subdivide(*t, *kept),
+            Call::Elevate if self.degree < MAX_DEGREE => self.elevate(),
+            _ => {}
+        }
+        None
+    }
+
+    fn entry(&self, t: Parameter) -> Entry {
+        let upper = self
+            .start
+            .times(&t.den.into())
+            .plus(&self.width.times(&t.num.into()));
+        let lower = self.lower.times(&t.den.into());
+        Entry {
+            upper,
+            lower,
+            sum: self.sum + self.degree as i64,
+        }
+    }
+
+    fn subdivide(&mut self, t: Parameter, kept: Kept) {
+        self.sum += self.degree as i64;
+        let Entry { upper, lower, .. } = self.entry(t);
+        match kept {
+            Kept::Left => {
+                self.start = self.start.times(&t.den.into());
+                self.width = self.width.times(&t.num.into());
+            }
+            Kept::Right => {
+                self.start = upper;
+                self.width = self.width.times(&(t.den - t.num).into());
+            }
+        }
+        self.lower = lower;
+    }
+
+    fn elevate(&mut self) {
+        self.degree += 1;
+        self.sum += 1;
+    }
+}
+
+#[cfg(test)]
+mod tests {
+    use super::*;
+
+    fn t(num: u32, den: u32) -> Parameter {
+        Parameter { num, den }
+    }
+
+    #[test]
+    fn keeps_place_and_sum() {
+        let curve = Curve::new(&[[0; 4]; 3]);
+        let mut ledger = Ledger::open(&curve);
+        assert!(ledger
+            .feed(&Call::Subdivide(t(1, 3), Kept::Right))
+            .is_none());
+        assert!(ledger
+            .feed(&Call::Subdivide(t(4, 3), Kept::Right))
+            .is_none());
+        assert!(ledger.feed(&Call::Elevate).is_none());
+        assert!(ledger.feed(&Call::Subdivide(t(1, 4), Kept::Left)).is_none());
+        assert!(ledger.feed(&Call::Evaluate(t(1, 0))).is_none());
+        // From 1/3 on, two thirds wide, a quarter of that kept: 1/3 to 1/2. Its middle is 5/12.
+        let entry = ledger.feed(&Call::Evaluate(t(1, 2))).unwrap();
+        assert_eq!(entry.upper.times(&12.into()), entry.lower.times(&5.into()));
+        assert_eq!(entry.sum, 2 + 1 + 3 + 3);
+    }
+
+    #[test]
+    fn elevates_no_further_than_degree_8() {
+        let mut ledger = Ledger::open(&Curve::new(&[[0; 4]; 9]));
+        ledger.feed(&Call::Elevate);
+        assert_eq!(ledger.feed(&Call::Evaluate(t(0, 1))).unwrap().sum, 8);
+    }
+}

@@ -1,0 +1,36 @@
+//! The second program: document 01 written again in ordinary Rust, from the paper and not from the
+//! proved code, and what runs it beside the proved library and the programs.
+#![forbid(unsafe_code)]
+
+// From the papers.
+pub mod card;
+pub mod claim;
+pub mod door;
+pub mod ledger;
+pub mod model;
+pub mod natural;
+pub mod search;
+
+// What is drawn.
+pub mod call;
+pub mod damage;
+pub mod draw;
+pub mod given;
+pub mod rng;
+
+// What is compared.
+pub mod calls;
+pub mod cards;
+pub mod lent;
+pub mod lists;
+pub mod panel;
+pub mod programs;
+pub mod trial;
+
+// What is counted.
+pub mod coverage;
+pub mod parts;
+pub mod tally;
+
+#[cfg(test)]
+mod faults;

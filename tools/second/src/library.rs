@@ -1,0 +1,15 @@
+//! The proved library's calls.
+
+use jusqani::raw;
+use second::door::Door;
+
+pub const LIBRARY: Door = Door {
+    evaluate: raw::evaluate,
+    subdivide: raw::subdivide,
+    elevate: raw::elevate,
+    bounds: raw::bounds,
+    search: raw::search,
+    read_card: raw::read_card,
+    write_card: raw::write_card,
+    panel: raw::panel,
+};

@@ -1,0 +1,105 @@
+//! Runs the second program beside the proved library and the programs: `second REPLAY CARD`, the two
+//! programs' paths. It prints what it ran and covered, and ends with status 1 at the first disagreement,
+//! or where it covered less than it must.
+#![forbid(unsafe_code)]
+
+mod library;
+
+use library::LIBRARY;
+use second::cards::MAX_CARD_LENT;
+use second::model::MAX_DEGREE;
+use second::parts::{in_parts, SEED};
+use second::programs::{card, examples, replay, slow};
+use second::rng::Rng;
+use second::tally::Tally;
+use second::trial::Trial;
+use second::{cards, lists, panel};
+use std::path::{Path, PathBuf};
+use std::process::ExitCode;
+use std::time::Instant;
+
+/// Lists of calls from curves of each degree, in parts of so many. One curve in twelve is spoilt and some
+/// have another degree, so this many are drawn for 250,000 accepted ones of each degree.
+const LISTS_OF_EACH_DEGREE: usize = 288_000;
+const LISTS_IN_A_PART: usize = 8_000;
+const CARDS_READ: usize = 400_000;
+/// How often the writer is tried with each length of buffer, at each degree.
+const WRITTEN_EACH: usize = 80;
+const PANEL_CALLS: usize = 1_000_000;
+const PARTS: usize = 100;
+/// Runs of the programs, each in a process of its own.
+const CARDS_PRINTED: usize = 600;
+const TEXTS: usize = 60;
+const DAMAGED_TEXTS: usize = 600;
+const SLOW_CASES: usize = 16;
+
+fn main() -> ExitCode {
+    let paths: Vec<PathBuf> = std::env::args_os().skip(1).map(PathBuf::from).collect();
+    let [replay_path, card_path] = &paths[..] else {
+        eprintln!("usage: second REPLAY CARD");
+        return ExitCode::from(2);
+    };
+    let begun = Instant::now();
+    let mut tally = Tally::default();
+    let ended = run_library(&mut tally)
+        .and_then(|()| run_programs(replay_path, card_path, &mut tally))
+        .and_then(|()| tally.require_all());
+    tally.print();
+    println!("seed {SEED}, {:.0} seconds", begun.elapsed().as_secs_f64());
+    let [ran, agreed] = tally.all_agreed();
+    println!("{agreed} of {ran} comparisons agreed");
+    match ended {
+        Ok(()) => ExitCode::SUCCESS,
+        Err(message) => {
+            println!("FAILED: {message}");
+            ExitCode::FAILURE
+        }
+    }
+}
+
+/// Every comparison of the library's calls, up to the first that disagrees.
+fn run_library(tally: &mut Tally) -> Result<(), String> {
+    cards::compare_beyond_words(&mut trial(&mut Rng::new(SEED), tally), examples::CARD)?;
+    let parts = MAX_DEGREE * LISTS_OF_EACH_DEGREE / LISTS_IN_A_PART;
+    in_parts(1, parts, tally, |_, rng, tally| {
+        let mut degrees = (1..=MAX_DEGREE).cycle().take(LISTS_IN_A_PART);
+        degrees.try_for_each(|degree| lists::compare(&mut trial(rng, tally), degree))
+    })?;
+    in_parts(2, PARTS, tally, |_, rng, tally| {
+        (0..CARDS_READ / PARTS).try_for_each(|_| cards::compare_reader(&mut trial(rng, tally)))
+    })?;
+    in_parts(3, WRITTEN_EACH, tally, |_, rng, tally| {
+        let lengths = 0..=MAX_CARD_LENT;
+        let mut pairs = lengths.flat_map(|length| (1..=MAX_DEGREE).map(move |n| (n, length)));
+        pairs.try_for_each(|(n, length)| cards::compare_writer(&mut trial(rng, tally), n, length))
+    })?;
+    in_parts(4, PARTS, tally, |_, rng, tally| {
+        (0..PANEL_CALLS / PARTS).try_for_each(|_| panel::compare(&mut trial(rng, tally)))
+    })
+}
+
+fn trial<'a>(rng: &'a mut Rng, tally: &'a mut Tally) -> Trial<'a> {
+    let door = &LIBRARY;
+    Trial { door, rng, tally }
+}
+
+/// Every comparison of the programs, up to the first that disagrees.
+fn run_programs(replay_path: &Path, card_path: &Path, tally: &mut Tally) -> Result<(), String> {
+    card::compare_example(card_path, tally)?;
+    replay::compare_examples(replay_path, tally)?;
+    in_parts(5, CARDS_PRINTED, tally, |_, rng, tally| {
+        card::compare(card_path, rng, tally)
+    })?;
+    in_parts(6, TEXTS, tally, |_, rng, tally| {
+        replay::compare_cases(replay_path, rng, tally)
+    })?;
+    in_parts(7, DAMAGED_TEXTS, tally, |_, rng, tally| {
+        replay::compare_damaged(replay_path, rng, tally)
+    })?;
+    in_parts(8, SLOW_CASES, tally, |_, rng, tally| {
+        slow::compare(replay_path, rng, tally)
+    })?;
+    in_parts(9, 1, tally, |_, rng, tally| {
+        replay::compare_long(replay_path, rng, tally)
+    })
+}

@@ -1,0 +1,272 @@
+//! The curve and what is done with it: document 01's operations in ordinary 64-bit arithmetic. The
+//! definitions keep to the paper's words, since this is what the proved code is compared with.
+
+/// The largest side, in steps of 1/1,024 ohm; the least is its negative.
+pub const MAX_SIDE: i64 = 16_777_216;
+pub const MAX_DEGREE: usize = 8;
+/// The places of a curve's record: one for each control point of the highest degree.
+pub const PLACES: usize = MAX_DEGREE + 1;
+pub const MAX_DEN: u32 = 65_536;
+
+/// Resistance low, resistance high, reactance low, reactance high.
+pub type Rectangle = [i64; 4];
+
+/// A degree and its control points; the places past the degree are zero.
+#[derive(Clone, Copy, PartialEq, Debug)]
+pub struct Curve {
+    pub degree: usize,
+    pub points: [Rectangle; PLACES],
+}
+
+/// The fraction num/den at which a curve is evaluated or subdivided.
+#[derive(Clone, Copy, PartialEq, Debug)]
+pub struct Parameter {
+    pub num: u32,
+    pub den: u32,
+}
+
+#[derive(Clone, Copy, PartialEq, Debug)]
+pub struct Refusal {
+    pub number: u32,
+    pub place: usize,
+}
+
+/// The refusal under its number, where the condition holds.
+pub fn refuse_if(condition: bool, number: u32, place: usize) -> Result<(), Refusal> {
+    if condition {
+        return Err(Refusal { number, place });
+    }
+    Ok(())
+}
+
+impl Curve {
+    pub const ZERO: Curve = Curve {
+        degree: 0,
+        points: [[0; 4]; PLACES],
+    };
+
+    /// The curve with these control points.
+    pub fn new(points: &[Rectangle]) -> Curve {
+        let mut curve = Curve::ZERO;
+        curve.degree = points.len() - 1;
+        curve.points[..points.len()].copy_from_slice(points);
+        curve
+    }
+
+    /// Control points 0 to n.
+    pub fn control_points(&self) -> &[Rectangle] {
+        &self.points[..=self.degree]
+    }
+
+    /// Refusals 1 to 3: 2 over all rectangles, then 3 over all.
+    pub fn check(&self) -> Result<(), Refusal> {
+        refuse_if(self.degree < 1 || self.degree > MAX_DEGREE, 1, 0)?;
+        for (k, rectangle) in self.control_points().iter().enumerate() {
+            refuse_if(out_of_range(rectangle), 2, k)?;
+        }
+        for (k, rectangle) in self.control_points().iter().enumerate() {
+            refuse_if(low_above_high(rectangle), 3, k)?;
+        }
+        Ok(())
+    }
+
+    /// The load at a parameter (the paper's reading): what the last stage has left.
+    pub fn evaluate(&self, t: Parameter) -> Result<Rectangle, Refusal> {
+        let (left, _) = self.subdivide(t)?;
+        Ok(left.points[self.degree])
+    }
+
+    /// The left piece and the right piece (the paper's cut): the first rectangle of each stage of de
+    /// Casteljau's table, and the last of each stage from the last stage back.
+    pub fn subdivide(&self, t: Parameter) -> Result<(Curve, Curve), Refusal> {
+        self.check()?;
+        t.check()?;
+        let n = self.degree;
+        let (mut left, mut right) = (*self, *self);
+        let mut stage = self.points;
+        for s in 1..=n {
+            // Stage s has the affine maps of the neighbours in the stage before, and ends at n - s.
+            for k in 0..=n - s {
+                stage[k] = affine(t, &stage[k], &stage[k + 1]);
+            }
+            left.points[s] = stage[0];
+            right.points[n - s] = stage[n - s];
+        }
+        Ok((left, right))
+    }
+
+    /// The same curve by control points of one degree more (the paper's raising).
+    pub fn elevate(&self) -> Result<Curve, Refusal> {
+        self.check()?;
+        refuse_if(self.degree == MAX_DEGREE, 6, 0)?;
+        let n = self.degree;
+        let mut elevated = Curve::ZERO;
+        elevated.degree = n + 1;
+        for k in 0..=n + 1 {
+            let before = if k == 0 { [0; 4] } else { self.points[k - 1] };
+            let here = if k == n + 1 { [0; 4] } else { self.points[k] };
+            elevated.points[k] = weighted(k as i64, &before, (n + 1 - k) as i64, &here);
+        }
+        Ok(elevated)
+    }
+
+    /// The least rectangle that holds all control points (the paper's span).
+    pub fn bounds(&self) -> Result<Rectangle, Refusal> {
+        self.check()?;
+        let mut span = self.points[0];
+        for point in self.control_points() {
+            for low in [0, 2] {
+                span[low] = span[low].min(point[low]);
+                span[low + 1] = span[low + 1].max(point[low + 1]);
+            }
+        }
+        Ok(span)
+    }
+}
+
+impl Parameter {
+    /// Refusals 4 and 5.
+    pub fn check(&self) -> Result<(), Refusal> {
+        refuse_if(self.den < 1 || self.den > MAX_DEN, 4, 0)?;
+        refuse_if(self.num > self.den, 5, 0)
+    }
+}
+
+pub fn out_of_range(rectangle: &Rectangle) -> bool {
+    rectangle
+        .iter()
+        .any(|side| *side < -MAX_SIDE || *side > MAX_SIDE)
+}
+
+pub fn low_above_high(rectangle: &Rectangle) -> bool {
+    rectangle[0] > rectangle[1] || rectangle[2] > rectangle[3]
+}
+
+/// The affine map of two rectangles.
+fn affine(t: Parameter, a: &Rectangle, b: &Rectangle) -> Rectangle {
+    weighted((t.den - t.num).into(), a, t.num.into(), b)
+}
+
+/// (p × a + q × b) / (p + q) of all four sides, rounded outward.
+fn weighted(p: i64, a: &Rectangle, q: i64, b: &Rectangle) -> Rectangle {
+    let low = |side: usize| (p * a[side] + q * b[side]).div_euclid(p + q);
+    let high = |side: usize| -(-(p * a[side] + q * b[side])).div_euclid(p + q);
+    [low(0), high(1), low(2), high(3)]
+}
+
+/// The four single-precision ohms of a load: each side's step count divided by 1,024.
+pub fn ohms(load: &Rectangle) -> [f32; 4] {
+    load.map(|side| f32::from_bits(ohm_bits(side)))
+}
+
+/// The bits of the single-precision number side / 1,024, for a side in range: a sign, eight bits of
+/// exponent with 127 added, and the 23 bits after the leading one. A zero has none of them set.
+fn ohm_bits(side: i64) -> u32 {
+    let size = side.unsigned_abs() as u32;
+    if size == 0 {
+        return 0;
+    }
+    let leading = size.ilog2();
+    let after = if leading > 23 {
+        size >> (leading - 23)
+    } else {
+        size << (23 - leading)
+    };
+    let sign = u32::from(side < 0);
+    (sign << 31) | ((leading - 10 + 127) << 23) | (after & 0x007f_ffff)
+}
+
+#[cfg(test)]
+mod tests {
+    use super::*;
+
+    /// A curve of one coordinate with low equal to high; the other coordinate is 0.
+    fn values(resistances: &[i64]) -> Curve {
+        let rectangles: Vec<Rectangle> = resistances.iter().map(|v| [*v, *v, 0, 0]).collect();
+        Curve::new(&rectangles)
+    }
+
+    fn resistances(curve: &Curve) -> Vec<[i64; 2]> {
+        let points = curve.control_points().iter();
+        points.map(|r| [r[0], r[1]]).collect()
+    }
+
+    fn at(num: u32, den: u32) -> Parameter {
+        Parameter { num, den }
+    }
+
+    fn number<T>(answer: Result<T, Refusal>) -> u32 {
+        answer.err().map_or(0, |refusal| refusal.number)
+    }
+
+    #[test]
+    fn evaluates_in_rounded_stages() {
+        assert_eq!(values(&[1, 0, 3]).evaluate(at(1, 2)), Ok([0, 2, 0, 0]));
+        assert_eq!(values(&[1, 0, 3]).evaluate(at(0, 1)), Ok([1, 1, 0, 0]));
+        assert_eq!(values(&[1, 0, 3]).evaluate(at(7, 7)), Ok([3, 3, 0, 0]));
+        let card = Curve::new(&[[0, 1, -3, -3], [1, 3, 0, 2]]);
+        assert_eq!(card.evaluate(at(1, 2)), Ok([0, 2, -2, 0]));
+        assert_eq!(card.evaluate(at(2, 4)), Ok([0, 2, -2, 0]));
+        assert_eq!(card.bounds(), Ok([0, 3, -3, 2]));
+    }
+
+    #[test]
+    fn subdivides_into_the_two_edges_of_the_table() {
+        let (left, right) = values(&[1, 0, 3]).subdivide(at(1, 2)).unwrap();
+        assert_eq!(resistances(&left), [[1, 1], [0, 1], [0, 2]]);
+        assert_eq!(resistances(&right), [[0, 2], [1, 2], [3, 3]]);
+        assert_eq!([left.points[3], right.points[3]], [[0; 4]; 2]);
+    }
+
+    #[test]
+    fn elevates_rounding_once() {
+        let elevated = values(&[0, 1]).elevate().unwrap();
+        assert_eq!(resistances(&elevated), [[0, 0], [0, 1], [1, 1]]);
+        let elevated = values(&[0, 0, -1]).elevate().unwrap();
+        assert_eq!(resistances(&elevated)[2], [-1, 0]);
+        assert_eq!(number(values(&[0; 9]).elevate()), 6);
+    }
+
+    #[test]
+    fn refuses_in_the_order_of_the_paper() {
+        assert_eq!(number(values(&[16_777_216, 0]).bounds()), 0);
+        assert_eq!(number(values(&[16_777_217, 0]).bounds()), 2);
+        assert_eq!(number(values(&[-16_777_217, 0]).bounds()), 2);
+        assert_eq!(number(Curve::ZERO.evaluate(at(1, 0))), 1);
+        let refused = |number, place| Err(Refusal { number, place });
+        let both = Curve::new(&[[1, 0, 0, 0], [0, 0, 0, MAX_SIDE + 1]]);
+        assert_eq!(both.evaluate(at(1, 0)), refused(2, 1));
+        let crossed = Curve::new(&[[0, 0, 0, 0], [0, 0, 0, 0], [0, 0, 1, 0]]);
+        assert_eq!(crossed.evaluate(at(1, 0)), refused(3, 2));
+    }
+
+    #[test]
+    fn tests_the_parameter() {
+        let line = values(&[0, 1]);
+        let refused = [
+            (65_536, 65_536, 0),
+            (0, 0, 4),
+            (0, 65_537, 4),
+            (1, 0, 4),
+            (8, 7, 5),
+        ];
+        for (num, den, expected) in refused {
+            assert_eq!(number(line.evaluate(at(num, den))), expected, "{num}/{den}");
+        }
+    }
+
+    #[test]
+    fn gives_ohms_with_nothing_lost() {
+        assert_eq!(
+            ohms(&[-1, 0, 1, 1_024]),
+            [-0.0009765625, 0.0, 0.0009765625, 1.0]
+        );
+        assert_eq!(ohm_bits(0), 0);
+        let near_ends = |end: i64| [end - 1, end].into_iter().flat_map(|side| [side, -side]);
+        let powers = (1..=24).flat_map(|power| near_ends(1 << power));
+        for side in powers.chain(-3_000..3_000).chain(16_770_000..MAX_SIDE) {
+            let exact = side as f64 / 1_024.0;
+            assert_eq!(f64::from(f32::from_bits(ohm_bits(side))), exact, "{side}");
+        }
+    }
+}

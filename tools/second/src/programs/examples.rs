@@ -1,0 +1,103 @@
+//! Document 01's examples as texts for `replay`, with the answers that the paper gives, and a few more
+//! along its limits, worked by hand. A stroke ends a line; the numbers are set into columns.
+
+use crate::card::line_of;
+
+/// The card of document 01, and what the program `card` prints for it.
+pub const CARD: &[u8] = b"         1
+         0         1        -3        -3
+         1         3         0         2
+";
+pub const PRINTED: &[u8] = b"         0         3        -3         2
+         0         2        -2         0
+";
+
+const EXAMPLES: [(&str, &str); 13] = [
+    // The card read at 1/2 and at 2/4, its two ends and its bounds.
+    (
+        "1 / 0 1 -3 -3 / 1 3 0 2 / 1 1 2 / 1 2 4 / 1 0 1 / 1 7 7 / 5 / 0",
+        "0 1 / 0 0 2 -2 0 1 / 0 0 2 -2 0 1 / 0 0 1 -3 -3 1 / 0 1 3 0 2 1 / 0 0 3 -3 2",
+    ),
+    // Values 1, 0, 3 evaluated and subdivided.
+    (
+        "2 / 1 1 0 0 / 0 0 0 0 / 3 3 0 0 / 1 1 2 / 2 1 2 / 0",
+        "0 2 / 0 0 2 0 0 2 / 0 2 1 1 0 0 0 1 0 0 0 2 0 0 0 2 0 0 1 2 0 0 3 3 0 0",
+    ),
+    // The same in the other coordinate; the right piece is kept and read at its ends.
+    (
+        "2 / 0 0 1 1 / 0 0 0 0 / 0 0 3 3 / 3 1 2 / 1 0 1 / 1 1 1 / 0",
+        "0 2 / 0 2 0 0 1 1 0 0 0 1 0 0 0 2 0 0 0 2 0 0 1 2 0 0 3 3 / 0 0 0 0 2 4 / 0 0 0 3 3 4",
+    ),
+    // Values 0, 1 elevated, then read: the ledger's sum is 1 and 2.
+    (
+        "1 / 0 0 0 0 / 1 1 0 0 / 4 / 1 0 1 / 0",
+        "0 1 / 0 2 0 0 0 0 0 1 0 0 1 1 0 0 / 0 0 0 0 0 3",
+    ),
+    // Values 0, 0, -1 elevated: the third is [-1, 0].
+    (
+        "2 / 0 0 0 0 / 0 0 0 0 / -1 -1 0 0 / 4 / 0",
+        "0 2 / 0 3 0 0 0 0 0 0 0 0 -1 0 0 0 -1 -1 0 0",
+    ),
+    // The farthest side, and one step more.
+    ("1 / 0 16777216 0 0 / 0 0 -16777216 0 / 5 / 0", "0 1 / 0 0 16777216 -16777216 0"),
+    ("1 / 0 16777216 0 0 / 0 0 -16777217 0 / 5 / 0", "2 1 / 1 0"),
+    // The limits of a parameter.
+    (
+        "1 / 0 0 0 0 / 1 1 0 0 / 1 0 65536 / 1 0 0 / 2 0 65537 / 3 1 0 / 1 8 7 / 0",
+        "0 1 / 0 0 0 0 0 1 / 4 0 / 4 0 / 4 0 / 5 0",
+    ),
+    // The searches.
+    (
+        "1 / 0 0 0 0 / 4 4 0 0 / 6 0 2 0 0 2 5 / 6 0 2 0 0 2 4 / 6 0 2 0 0 1 5 / 6 0 4 0 0 12 8191 / 0",
+        "0 1 / 0 2 2 3 5 / 0 3 0 0 4 / 0 4 1 1 3 / 0 1 0 0 1",
+    ),
+    // A search at budget 8,191 that looks at every piece and isn't spent.
+    ("1 / -1 1 -1 1 / -1 1 -1 1 / 6 0 0 0 0 12 8191 / 0", "0 1 / 0 4 12 0 8191"),
+    // The search's refusals in number order.
+    (
+        "1 / 0 0 0 0 / 4 4 0 0 / 6 1 0 0 0 13 0 / 6 0 0 0 0 13 0 / 6 0 0 0 0 12 0 / 6 0 0 0 0 12 8192 / 0",
+        "0 1 / 7 0 / 8 0 / 9 0 / 9 0",
+    ),
+    // Raising stops at degree 8, and a refused call leaves the curve and the ledger.
+    (
+        "8 / 0 0 0 0 / 0 0 0 0 / 0 0 0 0 / 0 0 0 0 / 0 0 0 0 / 0 0 0 0 / 0 0 0 0 / 0 0 0 0 / 9 9 0 0 / 4 / 1 1 1 / 0",
+        "0 8 / 6 0 / 0 9 9 0 0 8",
+    ),
+    (
+        "1 / 0 0 0 0 / 4 4 0 0 / 3 1 2 / 3 3 2 / 1 1 2 / 0",
+        "0 1 / 0 1 0 0 0 0 2 2 0 0 2 2 0 0 4 4 0 0 / 5 0 / 0 3 3 0 0 2",
+    ),
+];
+
+fn text_of(lines: &str) -> Vec<u8> {
+    let numbers = |line: &str| {
+        line.split_whitespace()
+            .map(|n| n.parse().expect("a number"))
+            .collect::<Vec<i64>>()
+    };
+    lines
+        .split('/')
+        .flat_map(|line| line_of(&numbers(line)))
+        .collect()
+}
+
+/// Each example's text and its answers.
+pub fn texts() -> impl Iterator<Item = (Vec<u8>, Vec<u8>)> {
+    EXAMPLES
+        .iter()
+        .map(|(given, answers)| (text_of(given), text_of(answers)))
+}
+
+#[cfg(test)]
+mod tests {
+    use super::*;
+    use crate::programs::text::{answers_to, Answers};
+
+    #[test]
+    fn come_out_as_the_paper_says() {
+        for (given, lines) in texts() {
+            let fault = None;
+            assert_eq!(answers_to(&given, false), Answers { lines, fault });
+        }
+    }
+}

@@ -1,0 +1,9 @@
+//! The programs `card` and `replay`, run as processes.
+
+pub mod card;
+pub mod examples;
+pub mod process;
+pub mod replay;
+pub mod session;
+pub mod slow;
+pub mod text;

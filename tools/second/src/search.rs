@@ -1,0 +1,150 @@
+//! The search for where a curve leaves a box (the paper's walk over a box), by the paper's rules, with
+//! the pieces that are due on a list.
+
+use crate::model::{low_above_high, out_of_range, refuse_if, Curve, Parameter, Rectangle, Refusal};
+
+pub const MAX_DEPTH: u32 = 12;
+pub const MAX_BUDGET: u32 = 8_191;
+const MIDDLE: Parameter = Parameter { num: 1, den: 2 };
+
+/// How a search ends. Depth and index name a piece.
+#[derive(Clone, Copy, PartialEq, Debug)]
+pub enum Verdict {
+    Inside,
+    Outside { depth: u32, index: u32 },
+    Spent,
+    Undecided { depth: u32, index: u32 },
+}
+
+/// What a search is given beside the curve: the box, the depth limit and the budget of pieces.
+#[derive(Clone, Copy, PartialEq, Debug)]
+pub struct Search {
+    pub limits: Rectangle,
+    pub depth: u32,
+    pub budget: u32,
+}
+
+struct Piece {
+    curve: Curve,
+    depth: u32,
+    index: u32,
+}
+
+impl Piece {
+    /// The two halves, the left one last, since the list is taken from its end.
+    fn halves(&self) -> Result<[Piece; 2], Refusal> {
+        let (left, right) = self.curve.subdivide(MIDDLE)?;
+        let half = |curve, index| Piece {
+            curve,
+            depth: self.depth + 1,
+            index,
+        };
+        Ok([half(right, 2 * self.index + 1), half(left, 2 * self.index)])
+    }
+}
+
+impl Search {
+    /// The verdict's number, the depth and the index of its piece, and the number of pieces looked at.
+    pub fn over(&self, curve: &Curve) -> Result<[u32; 4], Refusal> {
+        let (verdict, count) = self.verdict(curve)?;
+        Ok(match verdict {
+            Verdict::Inside => [1, 0, 0, count],
+            Verdict::Outside { depth, index } => [2, depth, index, count],
+            Verdict::Spent => [3, 0, 0, count],
+            Verdict::Undecided { depth, index } => [4, depth, index, count],
+        })
+    }
+
+    fn verdict(&self, curve: &Curve) -> Result<(Verdict, u32), Refusal> {
+        curve.check()?;
+        let no_box = out_of_range(&self.limits) || low_above_high(&self.limits);
+        refuse_if(no_box, 7, 0)?;
+        refuse_if(self.depth > MAX_DEPTH, 8, 0)?;
+        refuse_if(self.budget < 1 || self.budget > MAX_BUDGET, 9, 0)?;
+        self.all_pieces(Piece {
+            curve: *curve,
+            depth: 0,
+            index: 0,
+        })
+    }
+
+    fn all_pieces(&self, whole: Piece) -> Result<(Verdict, u32), Refusal> {
+        let mut due = vec![whole];
+        let mut count = 0;
+        let mut noted = None;
+        while let Some(piece) = due.pop() {
+            if count == self.budget {
+                return Ok((Verdict::Spent, count));
+            }
+            count += 1;
+            let (depth, index) = (piece.depth, piece.index);
+            let bounds = piece.curve.bounds()?;
+            if lies_in(&bounds, &self.limits) {
+                continue;
+            }
+            if have_no_common_point(&bounds, &self.limits) {
+                return Ok((Verdict::Outside { depth, index }, count));
+            }
+            if depth < self.depth {
+                due.extend(piece.halves()?);
+            } else {
+                noted = noted.or(Some(Verdict::Undecided { depth, index }));
+            }
+        }
+        Ok((noted.unwrap_or(Verdict::Inside), count))
+    }
+}
+
+fn lies_in(inner: &Rectangle, outer: &Rectangle) -> bool {
+    outer[0] <= inner[0] && inner[1] <= outer[1] && outer[2] <= inner[2] && inner[3] <= outer[3]
+}
+
+fn have_no_common_point(a: &Rectangle, b: &Rectangle) -> bool {
+    a[1] < b[0] || b[1] < a[0] || a[3] < b[2] || b[3] < a[2]
+}
+
+#[cfg(test)]
+mod tests {
+    use super::*;
+
+    /// Resistance values 0, 4 and reactance values 0, 0.
+    fn searched(limits: Rectangle, depth: u32, budget: u32) -> Result<[u32; 4], Refusal> {
+        let curve = Curve::new(&[[0; 4], [4, 4, 0, 0]]);
+        Search {
+            limits,
+            depth,
+            budget,
+        }
+        .over(&curve)
+    }
+
+    #[test]
+    fn ends_as_the_examples_say() {
+        let half = [0, 2, 0, 0];
+        assert_eq!(searched(half, 2, 5), Ok([2, 2, 3, 5]));
+        assert_eq!(searched(half, 2, 4), Ok([3, 0, 0, 4]));
+        assert_eq!(searched(half, 1, 5), Ok([4, 1, 1, 3]));
+        assert_eq!(searched([0, 4, 0, 0], 12, 8_191), Ok([1, 0, 0, 1]));
+    }
+
+    #[test]
+    fn refuses_in_number_order() {
+        let refused = |number| Err(Refusal { number, place: 0 });
+        assert_eq!(searched([1, 0, 0, 0], 13, 0), refused(7));
+        assert_eq!(searched([0, 16_777_217, 0, 0], 13, 0), refused(7));
+        assert_eq!(searched([0; 4], 13, 0), refused(8));
+        assert_eq!(searched([0; 4], 12, 0), refused(9));
+        assert_eq!(searched([0; 4], 12, 8_192), refused(9));
+    }
+
+    #[test]
+    fn is_never_spent_at_the_whole_budget() {
+        let curve = Curve::new(&[[-1, 1, -1, 1]; 9]);
+        let search = Search {
+            limits: [0; 4],
+            depth: 12,
+            budget: 8_191,
+        };
+        assert_eq!(search.over(&curve), Ok([4, 12, 0, 8_191]));
+    }
+}
