@@ -142,9 +142,16 @@ impl Trial<'_> {
             self.count_given(given);
             self.tally.cover(Line::SearchLimits, lent);
             self.tally.cover(Line::SearchDepth, depth as usize);
-            self.tally.cover(Line::Verdicts, verdict.left()[0] as usize);
+            self.count_verdict(verdict.left());
         }
         Ok(())
+    }
+
+    fn count_verdict(&mut self, verdict: &[u32]) {
+        let above = [1, 63, 1_023].map(|end| verdict[3] > end);
+        let pieces = above.iter().filter(|above| **above).count();
+        self.tally.cover(Line::Verdicts, verdict[0] as usize);
+        self.tally.cover(Line::Pieces, pieces);
     }
 
     /// The slice of a search's box: mostly its four sides, or fewer, or some behind them.

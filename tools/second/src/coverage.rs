@@ -82,6 +82,7 @@ pub enum Line {
     SearchLimits,
     SearchDepth,
     Verdicts,
+    Pieces,
     ReadNumbers,
     ReadCurve,
     ReadKinds,
@@ -151,6 +152,7 @@ pub enum Values {
 /// the least counts 1 and the greatest 2.
 const REACHED: Values = Words(&["neither", "-16,777,216", "16,777,216", "both"]);
 const LENT: Values = Words(&["fewer", "as many", "more"]);
+const PIECES: Values = Words(&["1", "2 to 63", "64 to 1,023", "1,024 to 8,191"]);
 const FITS: Values = Words(&["one short", "exact", "one more"]);
 /// In the order of the enums At, Ohm, Kind and Malformed.
 const AT: Values = Words(&["0", "1", "between", "den 1", "den 65,536", "den between"]);
@@ -255,6 +257,7 @@ pub const GROUPS: [Group; 11] = [
             (SearchLimits, "accepted by limits lent", Span(0, 8), 1_000),
             (SearchDepth, "accepted by depth limit", Span(0, 12), 500),
             (Verdicts, "verdicts", Span(1, 4), 1_000),
+            (Pieces, "pieces looked at", PIECES, 100),
         ],
     ),
     (
