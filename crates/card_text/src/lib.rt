@@ -8,12 +8,10 @@ mod checks;
 mod read;
 mod write;
 
-use checks::HEADER_LENGTH;
-use checks::ROW_LENGTH;
+use checks::card_length;
 use checks::writing_refusal;
 use columns::put_line;
 use curve::Curve;
-use curve::PLACES;
 use curve::Refusal;
 use curve::curve_refusal;
 use curve::first_of;
@@ -22,14 +20,8 @@ use read::read_header;
 use read::read_rows;
 use write::write_rows;
 
-// The length of a card by its degree.
-pub use checks::card_length;
-
 // A rectangle's numbers as its line shows them.
 pub use write::sides;
-
-// The bytes of the longest card.
-pub const LONGEST_CARD: usize = HEADER_LENGTH + ROW_LENGTH * PLACES;
 
 // The answer of read_card.
 pub struct CardRead {

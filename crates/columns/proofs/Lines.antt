@@ -33,10 +33,6 @@ fit-split : (z : ℤ) (zs : List ℤ) → allFit (z ∷ zs) ≡ true → (fitsCo
 unfolding allFit
 fit-split z zs e = both (fitsColumn z) (allFit zs) e
 
-pub fit-append : (a b : List ℤ) → allFit a ≡ true → allFit b ≡ true → allFit (a ++ b) ≡ true
-fit-append [] b f g = g
-fit-append (z ∷ a) b f g = let (h, t) = fit-split z a f in fit-more z (a ++ b) h (fit-append a b t g)
-
 pub fit-take : (k : ℕ) (zs : List ℤ) → allFit zs ≡ true → allFit (take k zs) ≡ true
 fit-take zero zs f = fit-none
 fit-take (suc k) [] f = fit-none
