@@ -26,9 +26,9 @@
  *   11  a column is malformed, or a line does not end with byte 10; place: the offset of the column or the line end
  *   12  a buffer for the result is too short; place: the length that is needed
  *
- * They are tried in the order 1, 2, 3, then the call's own as its paragraph lists them, and 12 last. A refused call
- * changes no buffer. A call that is not refused stores its result in front of each buffer that it is lent for it, and
- * what lies past the result keeps its contents.
+ * A call tries them in the order in which its paragraph lists them, 12 last. A refused call changes no buffer. A call
+ * that is not refused stores its result in front of each buffer that it is lent for it, and what lies past the result
+ * keeps its contents.
  *
  * The caller provides valid buffers of the stated lengths; one that a call writes overlaps no other. A pointer must
  * not be null, also where its length is 0. The calls keep no pointer and always return.

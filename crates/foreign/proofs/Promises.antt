@@ -6,7 +6,7 @@ use native.Mathlib.Omega.{arith}
 use borrow.Author.Tests.{le-leb}
 use Rattle.curve.specs.declared.Refusal.{Refusal}
 use Rattle.foreign.specs.Answer.{word, maxPlace, placeOf, answerOf}
-use Rattle.foreign.specs.Promises.{Unpacked, CurveLength}
+use Rattle.foreign.specs.Promises.{Unpacked, ZeroAnswer, CurveLength}
 use Rattle.foreign.proofs.Numbers as Numbers
 
 -- two numbers in one
@@ -26,6 +26,10 @@ unpacked r small =
     let n = r .number in
     let p = placeOf (r .place) in
     (low-half n p small, high-half n p small, λ fits. place-kept (r .place) (omega arith))
+
+pub zero-answer : ZeroAnswer
+unfolding answerOf placeOf
+zero-answer r listed = (λ e. rw e, λ e. listed .zero (omega arith))
 
 pub curve-length : CurveLength
 curve-length = Numbers.curve-length

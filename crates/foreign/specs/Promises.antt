@@ -1,12 +1,19 @@
 -- What is promised of the calls from outside beside their equations, over the definitions that their contracts cite.
 -- Assumes nothing.
 use mathlib.Core.Path.{_≡_}
-use Prim.Native.Nat.{ℕ, _+_, _*_, _/_, _%_, _^_, _<_}
+use mathlib.Core.List.{List}
+use Prim.Native.Nat.{ℕ, _+_, _*_, _/_, _%_, _^_, _<_, _≤_}
 use lib.ListN.{length}
+use Rattle.curve.specs.declared.Rect.{Rect}
 use Rattle.curve.specs.declared.Curve.{Curve}
 use Rattle.curve.specs.declared.Refusal.{Refusal}
+use Rattle.curve.specs.Refusals.{none, _orElse_}
+use Rattle.curve.specs.Calls.{evaluated, subdivided, elevated, bounded}
+use Rattle.card_text.specs.Reading.{readCard}
+use Rattle.card_text.specs.Writing.{writeCard}
+use Rattle.search.specs.Search.{searched}
 use Rattle.foreign.specs.Numbers.{curveNumbers}
-use Rattle.foreign.specs.Answer.{placeOf, answerOf}
+use Rattle.foreign.specs.Answer.{placeOf, answerOf, shorter}
 
 -- the number and the place are read off the low and the high 32 bits of an answer
 abbrev pub Unpacked : Type 0
@@ -17,3 +24,23 @@ Unpacked =
 -- a curve of degree n is 1 + 4 × (n + 1) numbers
 abbrev pub CurveLength : Type 0
 CurveLength = (c : Curve) → length (curveNumbers c) ≡ 1 + 4 * (c .degree + 1)
+
+-- a refusal with one of the listed numbers 1 to 12, or none
+pub record Listed (r : Refusal) : Type 0 where
+  pub known : r .number ≤ 12
+  pub zero : r .number ≡ 0 → r ≡ none
+
+-- so is the refusal of every call within, and with that of a list that is too short behind it
+pub record ListedAnswers : Type 0 where
+  pub evaluating : (c : Curve) (num den : ℕ) → Listed (evaluated c num den .refusal)
+  pub subdividing : (c : Curve) (num den : ℕ) → Listed (subdivided c num den .refusal)
+  pub elevating : (c : Curve) → Listed (elevated c .refusal)
+  pub bounding : (c : Curve) → Listed (bounded c .refusal)
+  pub searching : (c : Curve) (box : Rect) (depth budget : ℕ) → Listed (searched c box depth budget .refusal)
+  pub reading : (card : List ℕ) → Listed (readCard card .refusal)
+  pub writing : (c : Curve) (out : List ℕ) → Listed (writeCard c out .refusal)
+  pub short : (r : Refusal) (needed size : ℕ) → Listed r → Listed (r orElse shorter needed size)
+
+-- an answer is 0 exactly where nothing is refused
+abbrev pub ZeroAnswer : Type 0
+ZeroAnswer = (r : Refusal) → Listed r → (r ≡ none → answerOf r ≡ 0) × (answerOf r ≡ 0 → r ≡ none)
