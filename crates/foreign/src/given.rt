@@ -1,6 +1,7 @@
 // Rectangles and curves from the sides that a caller lends. Sides that a slice does not have count as zero.
 ghost use mathlib.Core.Path.{_≡_};
-ghost use Prim.Native.Nat.{_≤_};
+ghost use Prim.Native.Nat.{_*_, _≤_};
+ghost use Rattle.curve.specs.Limits.{maxDegree};
 ghost use Rattle.foreign.specs.Numbers.{sideAt, rectAt, curveFrom};
 ghost use Rattle.foreign.specs.Inner.{lastPlace};
 use crate::results::RECT_LENGTH;
@@ -18,9 +19,9 @@ fn side_at(sides: &[i32], k: usize) -> i32
     if k < sides.len() { sides[k] } else { 0 }
 }
 
-// The rectangle whose sides begin at an index.
+// The rectangle whose sides begin at an index, which is one of a curve's.
 pub fn rect_at(sides: &[i32], at: usize) -> Rect
-    requires { ⌜ at ≤ 32 ⌝ }
+    requires { ⌜ at ≤ 4 * maxDegree ⌝ }
     ensures { λ r. ⌜ r ≡ rectAt (now (sides .entry)) at ⌝ }
 {
     Rect {

@@ -60,7 +60,7 @@ fn store_curve(out: &mut [i32], c: Curve)
     out[0] = c.degree as i32;
 }
 
-// Gives a rectangle.
+// Gives a rectangle, unless the call is refused.
 pub fn put_rect(out: &mut [i32], refusal: Refusal, p: Rect)
     requires { ⌜ Room refusal 4 (now out) ⌝ }
     ensures { λ _. ⌜ now (out .exit) ≡ after refusal (sides p) (now (out .entry)) ⌝ }
@@ -71,7 +71,7 @@ pub fn put_rect(out: &mut [i32], refusal: Refusal, p: Rect)
     store_rect(out, 0, p);
 }
 
-// Gives a curve.
+// Gives a curve, unless the call is refused.
 pub fn put_curve(out: &mut [i32], refusal: Refusal, c: Curve)
     requires { ⌜ c .degree ≤ maxDegree ⌝ }
     requires { ⌜ Room refusal (length (curveNumbers c)) (now out) ⌝ }
@@ -83,7 +83,7 @@ pub fn put_curve(out: &mut [i32], refusal: Refusal, c: Curve)
     store_curve(out, c);
 }
 
-// Gives a load in ohms.
+// Gives a load in ohms, unless the call is refused.
 pub fn put_ohms(out: &mut [f32], refusal: Refusal, o: Ohms)
     requires { ⌜ Room refusal 4 (now out) ⌝ }
     ensures { λ _. ⌜ now (out .exit) ≡ after refusal (ohmNumbers o) (now (out .entry)) ⌝ }
@@ -118,7 +118,7 @@ fn verdict_numbers(v: Verdict) -> [u32; 4]
     }
 }
 
-// Gives a verdict.
+// Gives a verdict, unless the call is refused.
 pub fn put_verdict(out: &mut [u32], refusal: Refusal, v: Verdict)
     requires { ⌜ Room refusal 4 (now out) ⌝ }
     ensures { λ _. ⌜ now (out .exit) ≡ after refusal (verdictNumbers v) (now (out .entry)) ⌝ }
