@@ -28,7 +28,7 @@ place-small place = go (leb place maxPlace) refl
 
 enough : (needed size : ℕ) → shorter needed size .number ≡ 0 → needed ≤ size
 unfolding shorter
-enough needed size h = leb-true needed size (unless-zero (leb needed size) 11 needed h)
+enough needed size h = leb-true needed size (unless-zero (leb needed size) _ needed h)
 
 -- `refused` is the refusal of the call within, and r the same with the lent list's behind it
 module _ {A : Type 0} (refused : Refusal) (result out : List A) {needed : ℕ} {r : Refusal} (long : needed ≡ length result)
