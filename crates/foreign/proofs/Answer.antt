@@ -42,7 +42,7 @@ module _ {A : Type 0} (refused : Refusal) (result out : List A) {needed : ℕ} {
   pub has-room : Room r (length result) out
   has-room none = enough (length result) (length out) (parts none .1)
 
-  pub gives : {answer : ℕ} {left : List A} → answer ≡ answerOf r → left ≡ after r result out → Gives refused result out answer left
+  pub gives : {answer : ℕ} {ended : List A} → answer ≡ answerOf r → ended ≡ after r result out → Gives refused result out answer ended
   gives answered given =
       record { answered = answered ∙ ap answerOf whole; given = given ∙ ap (λ (x : Refusal). after x result out) whole }
 
@@ -56,8 +56,8 @@ module _ {A B : Type 0} (refused : Refusal) (result out : List A) (result′ out
   has-both =
       (λ none. has-room refused result out long tested (parts first result′ out′ long′ tested′ none .0), has-room first result′ out′ long′ tested′)
 
-  pub gives-both : {answer : ℕ} {left : List A} {left′ : List B} → answer ≡ answerOf r → left ≡ after r result out → left′ ≡ after r result′ out′ →
-      GivesBoth refused result out result′ out′ answer left left′
+  pub gives-both : {answer : ℕ} {ended : List A} {ended′ : List B} → answer ≡ answerOf r → ended ≡ after r result out → ended′ ≡ after r result′ out′ →
+      GivesBoth refused result out result′ out′ answer ended ended′
   gives-both answered given given′ =
       record {
         answered = answered ∙ ap answerOf both;

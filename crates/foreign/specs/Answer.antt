@@ -32,17 +32,17 @@ shorter needed size = unlessAt (leb needed size) 12 needed
 unfoldable pub after : {A : Type 0} → Refusal → List A → List A → List A
 after r result out = cond (eqb (r .number) 0) (result ++ drop (length result) out) out
 
--- a call with one result: its answer, and the lent list that it leaves
-pub record Gives {A : Type 0} (refused : Refusal) (result out : List A) (answer : ℕ) (left : List A) : Type 0 where
+-- a call with one result: its answer, and how the lent list ended
+pub record Gives {A : Type 0} (refused : Refusal) (result out : List A) (answer : ℕ) (ended : List A) : Type 0 where
   pub answered : answer ≡ answerOf (refused orElse shorter (length result) (length out))
-  pub given : left ≡ after (refused orElse shorter (length result) (length out)) result out
+  pub given : ended ≡ after (refused orElse shorter (length result) (length out)) result out
 
 -- a call with two results, either stored only if both can be
 abbrev pub refusedOf : {A B : Type 0} → Refusal → List A → List A → List B → List B → Refusal
 refusedOf refused result out result′ out′ =
     (refused orElse shorter (length result) (length out)) orElse shorter (length result′) (length out′)
 
-pub record GivesBoth {A B : Type 0} (refused : Refusal) (result out : List A) (result′ out′ : List B) (answer : ℕ) (left : List A) (left′ : List B) : Type 0 where
+pub record GivesBoth {A B : Type 0} (refused : Refusal) (result out : List A) (result′ out′ : List B) (answer : ℕ) (ended : List A) (ended′ : List B) : Type 0 where
   pub answered : answer ≡ answerOf (refusedOf refused result out result′ out′)
-  pub given : left ≡ after (refusedOf refused result out result′ out′) result out
-  pub given′ : left′ ≡ after (refusedOf refused result out result′ out′) result′ out′
+  pub given : ended ≡ after (refusedOf refused result out result′ out′) result out
+  pub given′ : ended′ ≡ after (refusedOf refused result out result′ out′) result′ out′
