@@ -22,6 +22,8 @@ pub enum Row {
     Claim,
     CardExample,
     CardProgram,
+    CardLong,
+    CardSlow,
     ReplayExamples,
     ReplayTexts,
     ReplayDamaged,
@@ -30,7 +32,7 @@ pub enum Row {
 }
 
 /// Each row's name, and how many comparisons must agree.
-pub const ROWS: [(Row, &str, u64); 19] = [
+pub const ROWS: [(Row, &str, u64); 21] = [
     (Evaluate, "evaluate", 2_000_000),
     (Subdivide, "subdivide", 1_000_000),
     (Elevate, "elevate", 500_000),
@@ -45,6 +47,8 @@ pub const ROWS: [(Row, &str, u64); 19] = [
     (Claim, "demand 3, readings", 200_000),
     (CardExample, "card, example of document 01", 1),
     (CardProgram, "card, cards", 500),
+    (CardLong, "card, long input", 5),
+    (CardSlow, "card, slow pipe", 16),
     (ReplayExamples, "replay, examples", 13),
     (ReplayTexts, "replay, texts", 100),
     (ReplayDamaged, "replay, damaged texts", 500),

@@ -86,6 +86,7 @@ fn trial<'a>(rng: &'a mut Rng, tally: &'a mut Tally) -> Trial<'a> {
 /// Every comparison of the programs, up to the first that disagrees.
 fn run_programs(replay_path: &Path, card_path: &Path, tally: &mut Tally) -> Result<(), String> {
     card::compare_example(card_path, tally)?;
+    card::compare_long(card_path, tally)?;
     replay::compare_examples(replay_path, tally)?;
     in_parts(5, CARDS_PRINTED, tally, |_, rng, tally| {
         card::compare(card_path, rng, tally)
@@ -97,7 +98,8 @@ fn run_programs(replay_path: &Path, card_path: &Path, tally: &mut Tally) -> Resu
         replay::compare_damaged(replay_path, rng, tally)
     })?;
     in_parts(8, SLOW_CASES, tally, |_, rng, tally| {
-        slow::compare(replay_path, rng, tally)
+        slow::compare_card(card_path, rng, tally)?;
+        slow::compare_replay(replay_path, rng, tally)
     })?;
     in_parts(9, 1, tally, |_, rng, tally| {
         replay::compare_long(replay_path, rng, tally)

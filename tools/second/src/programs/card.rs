@@ -5,7 +5,7 @@ use crate::coverage::{Line, Row};
 use crate::damage;
 use crate::model::{Parameter, Refusal};
 use crate::programs::examples::{CARD, PRINTED};
-use crate::programs::process::run;
+use crate::programs::process::{run, Written};
 use crate::rng::Rng;
 use crate::tally::{disagreement, Tally};
 use std::path::Path;
@@ -27,29 +27,45 @@ fn refused(refusal: Refusal) -> Vec<u8> {
 /// Compares one run of the program on a card, sound or damaged.
 pub fn compare(program: &Path, rng: &mut Rng, tally: &mut Tally) -> Result<(), String> {
     let card = damage::card(rng);
-    let printed = printed(&card);
-    let number = printed.as_ref().map_or_else(|r| r.number as usize, |_| 0);
+    let number = printed(&card).map_or_else(|refusal| refusal.number as usize, |_| 0);
     tally.cover(Line::CardNumbers, number);
-    let expected = printed.unwrap_or_else(refused);
-    compare_lines(program, &card, &expected, Row::CardProgram, tally)
+    let came = run(program, &[], &card)?;
+    compare_lines(&card, &came, Row::CardProgram, tally)
 }
 
 /// Compares the run on document 01's card.
 pub fn compare_example(program: &Path, tally: &mut Tally) -> Result<(), String> {
-    compare_lines(program, CARD, PRINTED, Row::CardExample, tally)
+    let came = run(program, &[], CARD)?;
+    let agrees = came.status == Some(0) && came.bytes == PRINTED;
+    tally.compare(Row::CardExample, agrees, || {
+        disagreement(CARD, PRINTED, &came.bytes)
+    })
 }
 
-fn compare_lines(
-    program: &Path,
+/// Lengths of input about the most that is taken as the card, and far beyond it.
+const LONG: [usize; 5] = [MAX_READ - 1, MAX_READ, MAX_READ + 1, 10_000, 1_000_000];
+
+/// Compares the runs on long input.
+pub fn compare_long(program: &Path, tally: &mut Tally) -> Result<(), String> {
+    LONG.iter().try_for_each(|length| {
+        let mut input = CARD.to_vec();
+        input.resize(*length, b' ');
+        let came = run(program, &[], &input)?;
+        compare_lines(&input, &came, Row::CardLong, tally)
+    })
+}
+
+/// Compares what the program wrote on a card with what it must print.
+pub fn compare_lines(
     card: &[u8],
-    expected: &[u8],
+    came: &Written,
     row: Row,
     tally: &mut Tally,
 ) -> Result<(), String> {
-    let came = run(program, &[], card)?;
+    let expected = printed(card).unwrap_or_else(refused);
     let agrees = came.status == Some(0) && came.bytes == expected;
     tally.compare(row, agrees, || {
-        let message = disagreement(card, expected, &came.bytes);
+        let message = disagreement(card, &expected, &came.bytes);
         format!("{message}with status {:?}", came.status)
     })
 }

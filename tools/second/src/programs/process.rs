@@ -2,7 +2,7 @@
 
 use std::io::Write;
 use std::path::Path;
-use std::process::{Child, Command, Stdio};
+use std::process::{Child, Command, Output, Stdio};
 
 /// What a program wrote to standard output and standard error, and its exit status.
 pub struct Written {
@@ -31,11 +31,17 @@ pub fn run(program: &Path, options: &[&str], input: &[u8]) -> Result<Written, St
         child.wait_with_output()
     });
     let output = output.map_err(|error| format!("{}: {error}", program.display()))?;
-    Ok(Written {
-        bytes: output.stdout,
-        errors: output.stderr,
-        status: output.status.code(),
-    })
+    Ok(output.into())
+}
+
+impl From<Output> for Written {
+    fn from(output: Output) -> Written {
+        Written {
+            bytes: output.stdout,
+            errors: output.stderr,
+            status: output.status.code(),
+        }
+    }
 }
 
 #[cfg(test)]

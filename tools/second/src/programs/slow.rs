@@ -1,8 +1,10 @@
-//! The program `replay` at the end of a slow pipe: what is sent comes in small pieces with pauses, and
-//! every answer must come before more is sent.
+//! The programs at the end of a slow pipe: what is sent comes in small pieces with pauses. Every answer
+//! of `replay` must come before more is sent; `card` prints once its input has ended.
 
 use crate::card::{card_of, line_of};
 use crate::coverage::Row;
+use crate::damage;
+use crate::programs::card;
 use crate::programs::process::start;
 use crate::programs::session::Session;
 use crate::programs::text::{call_line, case, Case};
@@ -19,8 +21,21 @@ const PIECE: usize = 40;
 const PAUSE: Duration = Duration::from_millis(1);
 const PATIENCE: Duration = Duration::from_secs(10);
 
-/// Compares the answers to one case, each as it comes, and how the program ends.
-pub fn compare(program: &Path, rng: &mut Rng, tally: &mut Tally) -> Result<(), String> {
+/// Compares what `card` prints for a card, sound or damaged, that comes slowly.
+pub fn compare_card(program: &Path, rng: &mut Rng, tally: &mut Tally) -> Result<(), String> {
+    let card = damage::card(rng);
+    let mut child = start(program, &[])?;
+    let mut to = child.stdin.take().expect("a pipe to it");
+    // It may stop before it has read all; that is no failure here.
+    send(&mut to, &card, rng).ok();
+    drop(to);
+    let output = child.wait_with_output();
+    let came = output.map_err(|error| error.to_string())?.into();
+    card::compare_lines(&card, &came, Row::CardSlow, tally)
+}
+
+/// Compares the answers of `replay` to one case, each as it comes, and how it ends.
+pub fn compare_replay(program: &Path, rng: &mut Rng, tally: &mut Tally) -> Result<(), String> {
     let mut child = start(program, &[])?;
     let answers = lines_of(&mut child);
     let mut to = child.stdin.take().expect("a pipe to it");
