@@ -1,4 +1,4 @@
--- Laws of the definitions in specs/.
+-- Laws of the definitions in specs/, and the promise.
 pub mod Table
 pub mod Elevate
 pub mod Semiring
@@ -8,6 +8,7 @@ pub mod Elevation
 pub mod BernsteinSum
 pub mod Bounds
 pub mod Rationals
+pub mod Promises
 pub mod Convex
 pub mod Curve
 pub mod Rounded

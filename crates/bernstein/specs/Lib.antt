@@ -1,3 +1,4 @@
 pub mod Affine
 pub mod DeCasteljau
 pub mod Bernstein
+pub mod Promises

@@ -1,7 +1,8 @@
--- Laws of the definitions in specs/.
+-- Laws of the definitions in specs/, and the promises.
 pub mod Whole
 pub mod Order
 pub mod Quotient
 pub mod Rational
 pub mod RationalOrder
+pub mod Fractions
 pub mod Division

@@ -3,13 +3,9 @@
 use mathlib.Core.Path.{_≡_, refl, sym, _∙_, ap, ap₂}
 use mathlib.Core.Quot.{Setoid, Quotient, Quotient·mk, Quotient·sound, Quotient-set, Quotient·lift, Quotient·lift₂, Quotient·ind}
 use lib.IntN.{ℤ, pos, negℤ, _+ℤ_, _-ℤ_, _*ℤ_, +ℤ-comm, *ℤ-comm, +ℤ-idl, +ℤ-invr, zero-*ℤ}
-use Rattle.rational.specs.Fraction.{Frac, _+ᶠ_, _*ᶠ_, whole, complement}
+use Rattle.rational.specs.Fraction.{Frac, Equal, _+ᶠ_, _*ᶠ_, whole, complement}
 use Rattle.rational.proofs.Whole.{integer-ring, mul-assoc, mul-left-comm, add-mul, neg-mul, mul-one, one-mul}
 use Rattle.rational.proofs.Order.{*ℤ-equal-cancel}
-
--- equal by multiplying out
-pub record Equal (a b : Frac) : Type 0 where
-  pub crosswise : a .upper *ℤ pos (b .lower) ≡ b .upper *ℤ pos (a .lower)
 
 -- products in another order
 swap : (x y z : ℤ) → x *ℤ y *ℤ z ≡ x *ℤ z *ℤ y
@@ -44,9 +40,12 @@ unfoldable pub rat : Frac → ℚ
 unfolding ℚ
 rat a = Quotient·mk fractions a
 
-pub rat-equal : (a b : Frac) → a .upper *ℤ pos (b .lower) ≡ b .upper *ℤ pos (a .lower) → rat a ≡ rat b
+pub equal-rat : {a b : Frac} → Equal a b → rat a ≡ rat b
 unfolding ℚ rat
-rat-equal a b h = Quotient·sound fractions (record { crosswise = h })
+equal-rat h = Quotient·sound fractions h
+
+pub rat-equal : (a b : Frac) → a .upper *ℤ pos (b .lower) ≡ b .upper *ℤ pos (a .lower) → rat a ≡ rat b
+rat-equal a b h = equal-rat (record { crosswise = h })
 
 -- what holds of every fraction holds of every rational number
 pub by-fractions : (P : ℚ → Type 0) → ((x : ℚ) → IsProp (P x)) → ((a : Frac) → P (rat a)) → (x : ℚ) → P x
@@ -62,9 +61,11 @@ by-fractions₃ P prop h x y z = by-fractions (λ x. P x y z) (λ x. prop x y z)
 -- ---- the operations
 
 infixl 6 _+ℚ_
-add-equal : (a b a′ b′ : Frac) → Equal a a′ → Equal b b′ → rat (a +ᶠ b) ≡ rat (a′ +ᶠ b′)
+pub add-equal : (a b a′ b′ : Frac) → Equal a a′ → Equal b b′ → Equal (a +ᶠ b) (a′ +ᶠ b′)
 unfolding _+ᶠ_
-add-equal a b a′ b′ h k = rat-equal (a +ᶠ b) (a′ +ᶠ b′) (sums (a .upper) (b .upper) (a′ .upper) (b′ .upper) (pos (a .lower)) (pos (b .lower)) (pos (a′ .lower)) (pos (b′ .lower)) (h .crosswise) (k .crosswise))
+add-equal a b a′ b′ h k = record {
+  crosswise = sums (a .upper) (b .upper) (a′ .upper) (b′ .upper) (pos (a .lower)) (pos (b .lower)) (pos (a′ .lower)) (pos (b′ .lower)) (h .crosswise) (k .crosswise);
+}
   where
     sums : (u v u′ v′ a b a′ b′ : ℤ) → u *ℤ a′ ≡ u′ *ℤ a → v *ℤ b′ ≡ v′ *ℤ b → (u *ℤ b +ℤ v *ℤ a) *ℤ (a′ *ℤ b′) ≡ (u′ *ℤ b′ +ℤ v′ *ℤ a′) *ℤ (a *ℤ b)
     sums u v u′ v′ a b a′ b′ h k = apart u v a b a′ b′ ∙ ap₂ (λ x y. x *ℤ (b *ℤ b′) +ℤ y *ℤ (a *ℤ a′)) h k ∙ sym (apart′ u′ v′ a b a′ b′)
@@ -77,16 +78,17 @@ add-equal a b a′ b′ h k = rat-equal (a +ᶠ b) (a′ +ᶠ b′) (sums (a .up
 
 pub _+ℚ_ : ℚ → ℚ → ℚ
 unfolding ℚ rat Quotient·lift₂
-x +ℚ y = Quotient·lift₂ fractions fractions ℚ-set (λ a b. rat (a +ᶠ b)) add-equal x y
+x +ℚ y = Quotient·lift₂ fractions fractions ℚ-set (λ a b. rat (a +ᶠ b)) (λ a b a′ b′ h k. equal-rat (add-equal a b a′ b′ h k)) x y
 
 pub rat-add : (a b : Frac) → rat (a +ᶠ b) ≡ rat a +ℚ rat b
 unfolding ℚ rat _+ℚ_
 rat-add a b = refl
 
-mul-equal : (a b a′ b′ : Frac) → Equal a a′ → Equal b b′ → rat (a *ᶠ b) ≡ rat (a′ *ᶠ b′)
+pub mul-equal : (a b a′ b′ : Frac) → Equal a a′ → Equal b b′ → Equal (a *ᶠ b) (a′ *ᶠ b′)
 unfolding _*ᶠ_
-mul-equal a b a′ b′ h k = rat-equal (a *ᶠ b) (a′ *ᶠ b′)
-    (exchange (a .upper) (b .upper) (pos (a′ .lower)) (pos (b′ .lower)) ∙ ap₂ (λ x y. x *ℤ y) (h .crosswise) (k .crosswise) ∙ exchange (a′ .upper) (pos (a .lower)) (b′ .upper) (pos (b .lower)))
+mul-equal a b a′ b′ h k = record {
+  crosswise = exchange (a .upper) (b .upper) (pos (a′ .lower)) (pos (b′ .lower)) ∙ ap₂ (λ x y. x *ℤ y) (h .crosswise) (k .crosswise) ∙ exchange (a′ .upper) (pos (a .lower)) (b′ .upper) (pos (b .lower));
+}
   where
     exchange : (u v a b : ℤ) → u *ℤ v *ℤ (a *ℤ b) ≡ u *ℤ a *ℤ (v *ℤ b)
     exchange u v a b = simp integer-ring
@@ -94,7 +96,7 @@ mul-equal a b a′ b′ h k = rat-equal (a *ᶠ b) (a′ *ᶠ b′)
 infixl 7 _*ℚ_
 pub _*ℚ_ : ℚ → ℚ → ℚ
 unfolding ℚ rat Quotient·lift₂
-x *ℚ y = Quotient·lift₂ fractions fractions ℚ-set (λ a b. rat (a *ᶠ b)) mul-equal x y
+x *ℚ y = Quotient·lift₂ fractions fractions ℚ-set (λ a b. rat (a *ᶠ b)) (λ a b a′ b′ h k. equal-rat (mul-equal a b a′ b′ h k)) x y
 
 pub rat-mul : (a b : Frac) → rat (a *ᶠ b) ≡ rat a *ℚ rat b
 unfolding ℚ rat _*ℚ_

@@ -9,12 +9,12 @@ use native.Mathlib.Nat.{mul-pos}
 use lib.Dec.{lit<, T, T-prop}
 use lib.IntN.{ℤ, pos, _+ℤ_, _*ℤ_, zero-*ℤ}
 use lib.Signed.{_≤ℤ_, ≤ℤ-refl, leZ, leZ-yes}
-use Rattle.rational.specs.Fraction.{Frac, _≤ᶠ_, _+ᶠ_, _*ᶠ_, whole}
+use Rattle.rational.specs.Fraction.{Frac, Equal, _≤ᶠ_, _+ᶠ_, _*ᶠ_, whole}
 use Rattle.rational.proofs.Whole.{integer-ring, mul-one}
-use Rattle.rational.proofs.Order.{≤ℤ-certificate, ≤ℤ-trans, ≤ℤ-reflexive, *ℤ-mono, *ℤ-mono-nonneg, *ℤ-cancel}
-use Rattle.rational.proofs.Rational.{ℚ, rat, Equal, fractions, by-fractions, by-fractions₃, rat-add, rat-mul, _+ℚ_, _*ℚ_, embed, +ℚ-comm, *ℚ-comm, zero-*ℚ}
+use Rattle.rational.proofs.Order.{≤ℤ-certificate, ≤ℤ-antisymm, ≤ℤ-trans, ≤ℤ-reflexive, *ℤ-mono, *ℤ-mono-nonneg, *ℤ-cancel}
+use Rattle.rational.proofs.Rational.{ℚ, rat, fractions, by-fractions, by-fractions₃, rat-add, rat-mul, _+ℚ_, _*ℚ_, embed, +ℚ-comm, *ℚ-comm, zero-*ℚ}
 
-keeps : (a b a′ b′ : Frac) → Equal a a′ → Equal b b′ → a ≤ᶠ b → a′ ≤ᶠ b′
+pub keeps : (a b a′ b′ : Frac) → Equal a a′ → Equal b b′ → a ≤ᶠ b → a′ ≤ᶠ b′
 keeps a b a′ b′ h k l = record {
   crosswise = *ℤ-cancel (a .lower * b .lower) (mul-pos (a .positive) (b .positive))
       (≤ℤ-trans (≤ℤ-reflexive left) (≤ℤ-trans (*ℤ-mono (a′ .lower * b′ .lower) (l .crosswise)) (≤ℤ-reflexive right)));
@@ -77,6 +77,13 @@ unfolding ℚ rat test at-most
 
 pub ≤ℚ-refl : (x : ℚ) → x ≤ℚ x
 ≤ℚ-refl = by-fractions (λ x. x ≤ℚ x) (λ x. ≤ℚ-prop x x) (λ a. ≤ℚ-of (record { crosswise = ≤ℤ-refl (a .upper *ℤ pos (a .lower)) }))
+
+-- fractions of one value are equal by multiplying out
+pub equal-of : (a b : Frac) → rat a ≡ rat b → Equal a b
+equal-of a b h = record {
+  crosswise = ≤ℤ-antisymm (≤ᶠ-of a b (subst (λ x. rat a ≤ℚ x) h (≤ℚ-refl (rat a))) .crosswise)
+      (≤ᶠ-of b a (subst (λ x. x ≤ℚ rat a) h (≤ℚ-refl (rat a))) .crosswise);
+}
 
 pub ≤ℚ-trans : {x y z : ℚ} → x ≤ℚ y → y ≤ℚ z → x ≤ℚ z
 ≤ℚ-trans {x} {y} {z} = by-fractions₃ (λ x y z. x ≤ℚ y → y ≤ℚ z → x ≤ℚ z) (λ x y z. →-prop (→-prop (≤ℚ-prop x z)))

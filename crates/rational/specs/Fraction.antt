@@ -1,5 +1,6 @@
 -- Fractions, as pairs of whole numbers that are added, multiplied and compared by multiplying out. Equal fractions may be different pairs.
 -- Assumes nothing.
+use mathlib.Core.Path.{_≡_}
 use Prim.Native.Nat.{ℕ, zero, suc, _*_, _<_}
 use native.Mathlib.Nat.{mul-pos}
 use lib.IntN.{ℤ, pos, _+ℤ_, _-ℤ_, _*ℤ_}
@@ -29,6 +30,9 @@ a *ᶠ b = record { upper = a .upper *ℤ b .upper; lower = a .lower * b .lower;
 
 pub record _≤ᶠ_ (a b : Frac) : Type 0 where
   pub crosswise : (a .upper *ℤ pos (b .lower)) ≤ℤ (b .upper *ℤ pos (a .lower))
+
+pub record Equal (a b : Frac) : Type 0 where
+  pub crosswise : a .upper *ℤ pos (b .lower) ≡ b .upper *ℤ pos (a .lower)
 
 -- a whole number
 unfoldable pub whole : ℤ → Frac

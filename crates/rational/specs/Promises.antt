@@ -1,9 +1,10 @@
--- What is promised of rounding, over any divisor above 0, for numbers above and below zero.
+-- What is promised of rounding, over any divisor above 0, for numbers above and below zero, and of fractions.
 -- Assumes nothing.
-use Prim.Native.Nat.{ℕ, _<_}
-use lib.IntN.{ℤ, pos, _*ℤ_}
+use Prim.Native.Nat.{ℕ, _*_, _<_}
+use lib.IntN.{ℤ, pos, _+ℤ_, _*ℤ_}
 use lib.Signed.{_≤ℤ_}
 use Rattle.rational.specs.Rounding.{down, up, quotient}
+use Rattle.rational.specs.Fraction.{Frac, _+ᶠ_, _*ᶠ_, _≤ᶠ_, Equal, whole}
 
 -- rounded down, a quotient is the greatest whole number that is at most the exact one
 abbrev pub RoundsDown : Type 0
@@ -16,3 +17,23 @@ abbrev pub RoundsUp : Type 0
 RoundsUp =
     (d : ℕ) → 0 < d → (z : ℤ) →
     (z ≤ℤ (quotient up z d *ℤ pos d)) × ((m : ℤ) → z ≤ℤ (m *ℤ pos d) → quotient up z d ≤ℤ m)
+
+-- equal fractions have equal sums and products, and compare alike
+pub record ByValue : Type 0 where
+  pub sums : (a b a′ b′ : Frac) → Equal a a′ → Equal b b′ → Equal (a +ᶠ b) (a′ +ᶠ b′)
+  pub products : (a b a′ b′ : Frac) → Equal a a′ → Equal b b′ → Equal (a *ᶠ b) (a′ *ᶠ b′)
+  pub order : (a b a′ b′ : Frac) → Equal a a′ → Equal b b′ → a ≤ᶠ b → a′ ≤ᶠ b′
+
+-- z / d
+abbrev pub over : (d : ℕ) → 0 < d → ℤ → Frac
+over d positive z = record { upper = z; lower = d; positive = positive }
+
+-- over one lower number the upper ones are added and compared, and a product times both lower numbers is that of the upper ones
+pub record ByUpper (d : ℕ) (h : 0 < d) (u v : ℤ) : Type 0 where
+  pub sum : Equal (over d h u +ᶠ over d h v) (over d h (u +ℤ v))
+  pub ordered : u ≤ℤ v → over d h u ≤ᶠ over d h v
+  pub order : over d h u ≤ᶠ over d h v → u ≤ℤ v
+  pub product : (e : ℕ) (k : 0 < e) → Equal (over d h u *ᶠ over e k v *ᶠ whole (pos (d * e))) (whole (u *ℤ v))
+
+abbrev pub CommonLower : Type 0
+CommonLower = (d : ℕ) (h : 0 < d) (u v : ℤ) → ByUpper d h u v
