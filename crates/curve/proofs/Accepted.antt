@@ -26,7 +26,7 @@ range-side : (z : ℤ) → T (inRange z) → Side z
 unfolding inRange
 range-side z t = let (low, high) = both (leZ (negℤ (pos maxSide)) z) (leZ z (pos maxSide)) t in record { from = leZ-yes low; to = leZ-yes high }
 
-side-range : (z : ℤ) → Side z → T (inRange z)
+pub side-range : (z : ℤ) → Side z → T (inRange z)
 unfolding inRange
 side-range z h = join (leZ (negℤ (pos maxSide)) z) (leZ z (pos maxSide)) (h .from .le) (h .to .le)
 

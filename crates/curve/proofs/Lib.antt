@@ -14,6 +14,7 @@ pub mod Pieces
 pub mod Ranges
 pub mod Loads
 pub mod OhmsExact
+pub mod LoadOhms
 pub mod EndPoints
 pub mod EqualFractions
 pub mod PastUnread

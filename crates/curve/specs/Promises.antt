@@ -5,12 +5,15 @@ use mathlib.Core.Bool.{Bool, true, false}
 use Prim.Native.Nat.{ℕ, _+_, _*_, _≤_, _<_}
 use lib.Dec.{T}
 use lib.IntN.{ℤ, pos, negsuc, natAbs}
+use lib.Ieee.{Float}
 use lib.Ieee.Exact.{HasValue}
+use Rattle.rational.specs.Rounding.{Rounding, down, up}
 use Rattle.curve.specs.declared.Curve.{Curve}
 use Rattle.curve.specs.declared.Rect.{Rect}
+use Rattle.curve.specs.declared.Ohms.{Ohms}
 use Rattle.curve.specs.declared.Subdivision.{Subdivision}
 use Rattle.curve.specs.Limits.{maxDegree, stepsPerOhm}
-use Rattle.curve.specs.Rect.{Inside, inRange, zeroRect}
+use Rattle.curve.specs.Rect.{Coordinate, resistance, reactance, side, Inside, inRange, zeroRect}
 use Rattle.curve.specs.Curve.{point, SameCurve}
 use Rattle.curve.specs.Refusals.{Accepted, AcceptedAt}
 use Rattle.curve.specs.Ohms.{ohm}
@@ -87,3 +90,17 @@ negative (negsuc n) = true
 -- each ohm value is finite and exactly its side / 1,024, for every side in range
 abbrev pub ExactOhms : Type 0
 ExactOhms = (z : ℤ) → T (inRange z) → HasValue (ohm z) (negative z) (natAbs z) stepsPerOhm
+
+-- the ohms of one side
+abbrev pub ohmsAt : Coordinate → Rounding → Ohms → Float
+ohmsAt resistance down o = o .rlow
+ohmsAt resistance up o = o .rhigh
+ohmsAt reactance down o = o .xlow
+ohmsAt reactance up o = o .xhigh
+
+-- an evaluation's ohms are its load's sides / 1,024; of a refused one both are zero
+abbrev pub LoadOhms : Type 0
+LoadOhms =
+    (c : Curve) (num den : ℕ) (x : Coordinate) (r : Rounding) →
+    let z = side x r (evaluated c num den .load) in
+    HasValue (ohmsAt x r (evaluated c num den .ohms)) (negative z) (natAbs z) stepsPerOhm
