@@ -40,12 +40,12 @@ module _ (num den : ℕ) (f : Factors (den - num) num den) where
       ap (λ x. x -ℚ ratio den (f .positive) (pos num)) (sym (ratio-weights den (f .positive) (den - num) num (f .total))) ∙ +ℚ-cancel _ _
 
 module _ (c : Curve) (accepted : Accepted c) where
-  few : c .degree ≤ maxDegree
+  abbrev few : c .degree ≤ maxDegree
   few = accepted-facts c accepted .few
 
   module _ (num den : ℕ) (f : Factors (den - num) num den) where
     -- the left piece: from 0, as wide as the parameter
-    pub left-stretch : Stretch (embed (pos 0)) (rat (parameter num den)) (c .degree) c (leftOf c num den)
+    unfoldable pub left-stretch : Stretch (embed (pos 0)) (rat (parameter num den)) (c .degree) c (leftOf c num den)
     unfolding leftOf mean
     left-stretch = record {
       move = left (mean den (f .positive) (den - num) num);
@@ -58,7 +58,7 @@ module _ (c : Curve) (accepted : Accepted c) where
     }
 
     -- the right piece: from the parameter, as wide as the rest
-    pub right-stretch : Stretch (rat (parameter num den)) (rat (complement (parameter num den))) (c .degree) c (rightOf c num den)
+    unfoldable pub right-stretch : Stretch (rat (parameter num den)) (rat (complement (parameter num den))) (c .degree) c (rightOf c num den)
     unfolding rightOf mean
     right-stretch = record {
       move = λ q. right (mean den (f .positive) (den - num) num) q (c .degree);

@@ -1,3 +1,4 @@
 pub mod Ordinary
 pub mod Ledger
 pub mod Claim
+pub mod Promises
