@@ -10,3 +10,4 @@ pub mod Dyadic
 pub mod Laid
 pub mod Loads
 pub mod Meaning
+pub mod PastUnread

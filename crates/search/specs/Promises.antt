@@ -9,6 +9,7 @@ use Rattle.rational.specs.Fraction.{Frac, whole, _≤ᶠ_}
 use Rattle.curve.specs.declared.Rect.{Rect}
 use Rattle.curve.specs.declared.Curve.{Curve}
 use Rattle.curve.specs.Rect.{Coordinate, side}
+use Rattle.curve.specs.Curve.{SameCurve}
 use Rattle.curve.specs.Calls.{bounded}
 use Rattle.ledger.specs.Ordinary.{Ordinary, InsideOf, Bounded, loadAt}
 use Rattle.ledger.specs.Ledger.{parameter}
@@ -21,6 +22,10 @@ use Rattle.search.specs.Pieces.{pieceAt, acrossTo}
 -- the answer's number and values
 abbrev pub answered : Curve → Rect → ℕ → ℕ → Report
 answered c box depth budget = reported (searched c box depth budget .verdict)
+
+-- equal curves get equal answers: nothing past the degree is read
+abbrev pub PastUnread : Type 0
+PastUnread = (c e : Curve) (box : Rect) (depth budget : ℕ) → SameCurve c e → searched c box depth budget ≡ searched e box depth budget
 
 -- ---- the count
 
