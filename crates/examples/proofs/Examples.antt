@@ -2,8 +2,13 @@
 -- Assumes nothing.
 use mathlib.Core.Path.{refl}
 use Rattle.rational.specs.Rounding.{floor, ceiling, quotient}
+use Rattle.rational.specs.Fraction.{_+ᶠ_, _*ᶠ_, _^ᶠ_, whole, complement}
 use Rattle.bernstein.specs.Affine.{affine}
+use Rattle.bernstein.specs.Bernstein.{choose, sumTo, term, bernstein}
 use Rattle.bernstein.specs.DeCasteljau.{table, value, left, right}
+use Rattle.columns.specs.Column.{digitsBefore, digits, text, column, valueAfter, hasMinus, signed, decode, sameBytes, readBytes, readAt}
+use Rattle.card_text.specs.Reading.{degreeOf, intervalAt, rectAt, decoded, columnRefusal, lineEndRefusal, endsRefusal, rowRefusal, rowsRefusal, shortRefusal, lengthRefusal, headerRefusal, cardRefusal, readCard}
+use Rattle.ledger.specs.Ledger.{parameter}
 use Rattle.search.specs.Box.{within, disjoint, inBox, apartFrom, isBox}
 use Rattle.search.specs.Walk.{stepAt, walked}
 use Rattle.search.specs.Search.{boxRefusal, searchRefusal, searched}
@@ -12,8 +17,8 @@ use Rattle.curve.specs.Curve.{tabulate, pointsOf, loadOf, leftOf, rightOf, elev
 use Rattle.curve.specs.Refusals.{firstFailing, rangeRefusal, orderRefusal, curveRefusal, parameterRefusal, highestRefusal}
 use Rattle.curve.specs.Calls.{callRefusal, elevationRefusal, evaluated, subdivided, elevated, bounded}
 use Rattle.examples.specs.Shown.{resistancesFrom, resistancesShown}
-use Rattle.examples.specs.Examples.{cardCurve, examples, Agree}
+use Rattle.examples.specs.Examples.{cardCurve, exactLoad, examples, Agree}
 
 pub agree : Agree
-unfolding floor ceiling quotient affine table value left right inRange endsInRange sidesInRange endsOrdered sidesOrdered affineInterval affineRect tabulate pointsOf loadOf leftOf rightOf elevatedPoint elevatedOf firstFailing rangeRefusal orderRefusal curveRefusal parameterRefusal highestRefusal callRefusal elevationRefusal evaluated subdivided elevated bounded resistancesFrom resistancesShown cardCurve examples least greatest hullInterval hull hullTo boundsOf within disjoint inBox apartFrom isBox stepAt walked boxRefusal searchRefusal searched
+unfolding floor ceiling quotient _+ᶠ_ _*ᶠ_ _^ᶠ_ whole complement choose sumTo term bernstein parameter exactLoad digitsBefore digits text column valueAfter hasMinus signed decode sameBytes readBytes readAt degreeOf intervalAt rectAt decoded columnRefusal lineEndRefusal endsRefusal rowRefusal rowsRefusal shortRefusal lengthRefusal headerRefusal cardRefusal readCard affine table value left right inRange endsInRange sidesInRange endsOrdered sidesOrdered affineInterval affineRect tabulate pointsOf loadOf leftOf rightOf elevatedPoint elevatedOf firstFailing rangeRefusal orderRefusal curveRefusal parameterRefusal highestRefusal callRefusal elevationRefusal evaluated subdivided elevated bounded resistancesFrom resistancesShown cardCurve examples least greatest hullInterval hull hullTo boundsOf within disjoint inBox apartFrom isBox stepAt walked boxRefusal searchRefusal searched
 agree = refl

@@ -4,13 +4,19 @@ use mathlib.Core.Path.{_≡_}
 use mathlib.Core.List.{List, [], _∷_, map}
 use Prim.Native.Nat.{ℕ}
 use lib.IntN.{ℤ, pos, negsuc}
+use Rattle.rational.specs.Rounding.{down}
+use Rattle.rational.specs.Fraction.{Frac}
 use Rattle.curve.specs.declared.Curve.{Curve}
 use Rattle.curve.specs.declared.Rect.{Rect}
-use Rattle.curve.specs.Curve.{curveOf, point}
+use Rattle.curve.specs.Rect.{resistance}
+use Rattle.curve.specs.Curve.{point}
 use Rattle.curve.specs.Calls.{evaluated, subdivided, elevated, bounded}
+use Rattle.card_text.specs.Reading.{readCard}
+use Rattle.ledger.specs.Ordinary.{exactSide}
+use Rattle.ledger.specs.Ledger.{parameter}
 use Rattle.search.specs.Verdict.{outside, spent, undecided}
 use Rattle.search.specs.Search.{searched}
-use Rattle.examples.specs.Shown.{values, ends, refusalShown, evaluationShown, resistancesShown, verdictShown}
+use Rattle.examples.specs.Shown.{values, ends, refusalShown, evaluationShown, resistancesShown, verdictShown, upperOf, timesLower, spaces}
 
 -- an example: the numbers that a definition answers, and those that the document gives
 pub record Example : Type 0 where
@@ -21,13 +27,23 @@ infix 3 _gives_
 abbrev pub _gives_ : List ℤ → List ℤ → Example
 a gives d = record { answer = a; document = d }
 
--- the curve of the document's card; `negsuc 2` is −3
-abbrev pub cardPoint : ℕ → Rect
-cardPoint ℕ.zero = record { resistance = record { low = pos 0; high = pos 1 }; reactance = record { low = negsuc 2; high = negsuc 2 } }
-cardPoint (ℕ.suc k) = record { resistance = record { low = pos 1; high = pos 3 }; reactance = record { low = pos 0; high = pos 2 } }
+-- the bytes of the document's card: a space is 32, a minus 45, the digit d is 48 + d, and 10 ends a line
+abbrev pub cardBytes : List ℕ
+cardBytes =
+    spaces 9 (49 ∷ 10 ∷
+    spaces 9 (48 ∷ spaces 9 (49 ∷ spaces 8 (45 ∷ 51 ∷ spaces 8 (45 ∷ 51 ∷ 10 ∷
+    spaces 9 (49 ∷ spaces 9 (51 ∷ spaces 9 (48 ∷ spaces 9 (50 ∷ 10 ∷ [])))))))))
 
+-- the card, read
 unfoldable pub cardCurve : Curve
-cardCurve = curveOf 1 cardPoint
+cardCurve = readCard cardBytes .curve
+
+-- "values 1, 0, 3", and the exact load at 1/2
+abbrev pub threeValues : Curve
+threeValues = values 2 (pos 1 ∷ pos 0 ∷ pos 3 ∷ [])
+
+unfoldable pub exactLoad : Frac
+exactLoad = exactSide threeValues resistance down (parameter 1 2)
 
 -- the walk's box: resistance 0 to 2, reactance 0 to 0
 abbrev pub smallBox : Rect
@@ -35,18 +51,20 @@ smallBox = record { resistance = record { low = pos 0; high = pos 2 }; reactance
 
 unfoldable pub examples : List Example
 examples =
-    -- the card read at 1/2 gives 0, 2, −2, 0; at 2/4 the same
-    (evaluationShown (evaluated cardCurve 1 2) gives pos 0 ∷ pos 0 ∷ pos 0 ∷ pos 2 ∷ negsuc 1 ∷ pos 0 ∷ [])
+    -- the card above is read, and read at 1/2 gives 0, 2, −2, 0; at 2/4 the same
+    (refusalShown (readCard cardBytes .refusal) gives pos 0 ∷ pos 0 ∷ [])
+    ∷ (evaluationShown (evaluated cardCurve 1 2) gives pos 0 ∷ pos 0 ∷ pos 0 ∷ pos 2 ∷ negsuc 1 ∷ pos 0 ∷ [])
     ∷ (evaluationShown (evaluated cardCurve 2 4) gives pos 0 ∷ pos 0 ∷ pos 0 ∷ pos 2 ∷ negsuc 1 ∷ pos 0 ∷ [])
     -- reading at 0/1 gives rectangle 0, at 7/7 rectangle n
     ∷ (evaluationShown (evaluated cardCurve 0 1) gives pos 0 ∷ pos 0 ∷ pos 0 ∷ pos 1 ∷ negsuc 2 ∷ negsuc 2 ∷ [])
     ∷ (evaluationShown (evaluated cardCurve 7 7) gives pos 0 ∷ pos 0 ∷ pos 1 ∷ pos 3 ∷ pos 0 ∷ pos 2 ∷ [])
-    -- values 1, 0, 3 at 1/2: reading [0, 2]
-    ∷ (ends (evaluated (values 2 (pos 1 ∷ pos 0 ∷ pos 3 ∷ [])) 1 2 .load .resistance) gives pos 0 ∷ pos 2 ∷ [])
+    -- values 1, 0, 3 at 1/2: reading [0, 2], though the exact load is 1
+    ∷ (ends (evaluated threeValues 1 2 .load .resistance) gives pos 0 ∷ pos 2 ∷ [])
+    ∷ (upperOf exactLoad gives timesLower (pos 1) exactLoad)
     -- the same, cut at 1/2: left [1, 1], [0, 1], [0, 2]; right [0, 2], [1, 2], [3, 3]
-    ∷ (resistancesShown (subdivided (values 2 (pos 1 ∷ pos 0 ∷ pos 3 ∷ [])) 1 2 .left)
+    ∷ (resistancesShown (subdivided threeValues 1 2 .left)
     gives pos 2 ∷ pos 1 ∷ pos 1 ∷ pos 0 ∷ pos 1 ∷ pos 0 ∷ pos 2 ∷ [])
-    ∷ (resistancesShown (subdivided (values 2 (pos 1 ∷ pos 0 ∷ pos 3 ∷ [])) 1 2 .right)
+    ∷ (resistancesShown (subdivided threeValues 1 2 .right)
     gives pos 2 ∷ pos 0 ∷ pos 2 ∷ pos 1 ∷ pos 2 ∷ pos 3 ∷ pos 3 ∷ [])
     -- values 0, 1 raised: [0, 0], [0, 1], [1, 1]
     ∷ (resistancesShown (elevated (values 1 (pos 0 ∷ pos 1 ∷ [])) .curve)

@@ -2,8 +2,9 @@
 -- Assumes nothing.
 use mathlib.Core.List.{List, [], _∷_, _++_}
 use Prim.Native.Nat.{ℕ, suc, _+_}
-use lib.IntN.{ℤ, pos}
-use lib.ListN.{getD}
+use lib.IntN.{ℤ, pos, _*ℤ_}
+use lib.ListN.{getD, replicate}
+use Rattle.rational.specs.Fraction.{Frac}
 use Rattle.curve.specs.declared.Interval.{Interval}
 use Rattle.curve.specs.declared.Rect.{Rect}
 use Rattle.curve.specs.declared.Curve.{Curve}
@@ -48,3 +49,16 @@ resistancesShown c = pos (c .degree) ∷ resistancesFrom c (c .degree + 1) 0
 abbrev pub verdictShown : Verdict → List ℤ
 verdictShown v =
     pos (reported v .number) ∷ pos (reported v .depth) ∷ pos (reported v .index) ∷ pos (reported v .count) ∷ []
+
+-- a fraction by multiplying out: its upper number, and the whole number that it is compared with times its lower one
+abbrev pub upperOf : Frac → List ℤ
+upperOf x = x .upper ∷ []
+
+abbrev pub timesLower : ℤ → Frac → List ℤ
+timesLower z x = (z *ℤ pos (x .lower)) ∷ []
+
+-- ---- the bytes of a card
+
+-- so many spaces before some bytes
+abbrev pub spaces : ℕ → List ℕ → List ℕ
+spaces m bytes = replicate m 32 ++ bytes
