@@ -22,7 +22,7 @@
  *    7  a box side is out of range, or its low side is above its high side
  *    8  depth is above 12
  *    9  budget is not 1 to 8,191
- *   10  the card's length is not the length for its degree; place: its length, 2^32 - 1 for a longer one
+ *   10  the card has fewer than 11 bytes, or not the length for its degree; place: its length, 2^32 - 1 if longer
  *   11  a column is malformed, or a line does not end with byte 10; place: the offset of the column or the line end
  *   12  a buffer for the result is too short; place: the length that is needed
  *

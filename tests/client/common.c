@@ -35,7 +35,7 @@ const char *meaning(uint32_t number)
     case 3: return "a low side is above its high side";
     case 4: return "den is not 1 to 65,536";
     case 5: return "num is above den";
-    case 10: return "the card's length is not the length for its degree";
+    case 10: return "the card has fewer than 11 bytes, or not the length for its degree";
     case 11: return "a column is malformed, or a line does not end with byte 10";
     case 12: return "a buffer for the result is too short";
     default: return "not a refusal of the calls that are used here";

@@ -1,4 +1,4 @@
-/* What the two clients share: their arguments, the card they are given, and the words for a refusal. */
+/* What the clients share: their arguments, the card they are given, and the words for a refusal. */
 #ifndef CLIENT_COMMON_H
 #define CLIENT_COMMON_H
 

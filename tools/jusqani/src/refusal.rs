@@ -23,7 +23,7 @@ impl Refusal {
             7 => "a box side is out of range, or its low side is above its high side",
             8 => "depth is above 12",
             9 => "budget is not 1 to 8,191",
-            10 => "the card's length is not the length for its degree",
+            10 => "the card has fewer than 11 bytes, or not the length for its degree",
             11 => "a column is malformed, or a line does not end with byte 10",
             12 => "a buffer for the result is too short",
             _ => "not a refusal of this library",
@@ -76,7 +76,7 @@ mod tests {
         );
         assert_eq!(
             shown(10, 92),
-            "refused 10: the card's length is not the length for its degree, it has 92 bytes"
+            "refused 10: the card has fewer than 11 bytes, or not the length for its degree, it has 92 bytes"
         );
         assert_eq!(
             shown(11, 21),

@@ -1,0 +1,180 @@
+/* Measures the stack of each call: the call runs on a stack of its own, filled with a pattern before, and what it
+ * touched is what no longer holds the pattern. Every call is made on every card with each pattern, the search so that
+ * it reaches its greatest depth. Shows the most bytes that each call took, and fails if the panel call took more than
+ * its bound.
+ *
+ * A number counts from the caller's frame down: the arguments that are passed on the stack with their alignment, the
+ * return address, the frames of the library, and those of memcpy and memset. The caller's own frame is not counted.
+ * usage: stack CARD... */
+#define _XOPEN_SOURCE 600
+#include <inttypes.h>
+#include <stdio.h>
+#include <stdlib.h>
+#include <string.h>
+#include <ucontext.h>
+
+#include "common.h"
+#include "jusqani.h"
+
+/* The most bytes of stack that the panel call may take on x86-64, as docs/TRUST.md states it. */
+#define PANEL_STACK_BOUND 1536
+
+#define STACK_SIZE 65536
+#define MAX_DEPTH 12
+#define MAX_BUDGET 8191
+#define MAX_CURVE JUSQANI_CURVE_LENGTH(8)
+#define MAX_CARD_LENGTH JUSQANI_CARD_LENGTH(8)
+#define LOAD_BYTES 16
+
+/* What the calls are given and give. It is static, so that a call alone uses the measured stack. */
+static uint8_t card[MAX_CARD];
+static size_t card_length;
+static uint32_t num, den;
+static int32_t curve[MAX_CURVE], limits[JUSQANI_RECT_LENGTH];
+static int32_t first[MAX_CURVE], second[MAX_CURVE];
+static float ohms[JUSQANI_RECT_LENGTH];
+static uint32_t verdict[JUSQANI_VERDICT_LENGTH];
+static uint8_t bytes[MAX_CARD_LENGTH];
+static uint64_t answer;
+
+/* Where the frame of the function that makes the call ends. */
+static uint8_t *caller;
+#define COUNT_FROM_HERE (caller = __builtin_frame_address(0))
+
+static void call_panel(void)
+{
+    COUNT_FROM_HERE;
+    answer = jusqani_panel(card, card_length, num, den, bytes, LOAD_BYTES);
+}
+
+static void call_evaluate(void)
+{
+    COUNT_FROM_HERE;
+    answer = jusqani_evaluate((uint32_t)curve[0], curve + 1, MAX_CURVE - 1, num, den, first, MAX_CURVE, ohms,
+                              JUSQANI_RECT_LENGTH);
+}
+
+static void call_subdivide(void)
+{
+    COUNT_FROM_HERE;
+    answer = jusqani_subdivide((uint32_t)curve[0], curve + 1, MAX_CURVE - 1, num, den, first, MAX_CURVE, second,
+                               MAX_CURVE);
+}
+
+static void call_elevate(void)
+{
+    COUNT_FROM_HERE;
+    answer = jusqani_elevate((uint32_t)curve[0], curve + 1, MAX_CURVE - 1, first, MAX_CURVE);
+}
+
+static void call_bounds(void)
+{
+    COUNT_FROM_HERE;
+    answer = jusqani_bounds((uint32_t)curve[0], curve + 1, MAX_CURVE - 1, first, MAX_CURVE);
+}
+
+static void call_search(void)
+{
+    COUNT_FROM_HERE;
+    answer = jusqani_search((uint32_t)curve[0], curve + 1, MAX_CURVE - 1, limits, JUSQANI_RECT_LENGTH, MAX_DEPTH,
+                            MAX_BUDGET, verdict, JUSQANI_VERDICT_LENGTH);
+}
+
+static void call_read_card(void)
+{
+    COUNT_FROM_HERE;
+    answer = jusqani_read_card(card, card_length, first, MAX_CURVE);
+}
+
+static void call_write_card(void)
+{
+    COUNT_FROM_HERE;
+    answer = jusqani_write_card((uint32_t)curve[0], curve + 1, MAX_CURVE - 1, bytes, MAX_CARD_LENGTH);
+}
+
+static const struct {
+    const char *name;
+    void (*call)(void);
+} calls[] = {
+    {"panel", call_panel},         {"evaluate", call_evaluate},
+    {"subdivide", call_subdivide}, {"elevate", call_elevate},
+    {"bounds", call_bounds},       {"search", call_search},
+    {"read_card", call_read_card}, {"write_card", call_write_card},
+};
+#define CALLS (sizeof calls / sizeof calls[0])
+
+static void fail(const char *what)
+{
+    fprintf(stderr, "stack: %s\n", what);
+    exit(PROMISE_BROKEN);
+}
+
+/* The bytes from the caller's frame down to the last byte of a stack filled with a pattern that a call changed. */
+static size_t touched(void (*call)(void), int pattern)
+{
+    static _Alignas(16) uint8_t stack[STACK_SIZE];
+    static ucontext_t here, there;
+    memset(stack, pattern, sizeof stack);
+    if (getcontext(&there) != 0)
+        fail("no context");
+    there.uc_stack.ss_sp = stack;
+    there.uc_stack.ss_size = sizeof stack;
+    there.uc_link = &here;
+    makecontext(&there, call, 0);
+    if (swapcontext(&here, &there) != 0)
+        fail("no context");
+    size_t kept = 0;
+    while (kept < sizeof stack && stack[kept] == pattern)
+        kept++;
+    if (kept == 0)
+        fail("the stack ran out");
+    return (size_t)(caller - (stack + kept));
+}
+
+int main(int argc, char **argv)
+{
+    static const uint32_t parameters[][2] = {{0, 1}, {1, 2}, {1, 3}, {65535, 65536}, {7, 7}, {1, 0}, {8, 7}};
+    static const int patterns[] = {0x00, 0xa5, 0xff};
+    size_t most[CALLS] = {0};
+    int deepest = 0;
+    if (argc < 2) {
+        fprintf(stderr, "usage: %s CARD...\n", argv[0]);
+        return BAD_USAGE;
+    }
+    for (int k = 1; k < argc; k++) {
+        if (freopen(argv[k], "rb", stdin) == NULL) {
+            perror(argv[k]);
+            return BAD_USAGE;
+        }
+        card_length = read_input(card);
+        /* A refused card leaves the last curve. */
+        if (jusqani_read_card(card, card_length, curve, MAX_CURVE) == 0) {
+            /* A corner of rectangle 0: the search goes down to the piece at the curve's start. */
+            limits[0] = limits[1] = curve[1];
+            limits[2] = limits[3] = curve[3];
+        }
+        for (size_t p = 0; p < sizeof parameters / sizeof parameters[0]; p++) {
+            num = parameters[p][0];
+            den = parameters[p][1];
+            for (size_t f = 0; f < sizeof patterns / sizeof patterns[0]; f++) {
+                for (size_t c = 0; c < CALLS; c++) {
+                    size_t took = touched(calls[c].call, patterns[f]);
+                    most[c] = took > most[c] ? took : most[c];
+                    if (calls[c].call == call_search && answer == 0 && verdict[1] == MAX_DEPTH)
+                        deepest = 1;
+                }
+            }
+        }
+    }
+    if (!deepest)
+        fail("no search reached its greatest depth");
+    printf("stack:");
+    for (size_t c = 0; c < CALLS; c++)
+        printf("%s %s %zu", c == 0 ? "" : ",", calls[c].name, most[c]);
+    printf(" bytes\n");
+    if (most[0] > PANEL_STACK_BOUND) {
+        fprintf(stderr, "stack: the panel call took %zu bytes, its bound is %d\n", most[0], PANEL_STACK_BOUND);
+        return PROMISE_BROKEN;
+    }
+    return 0;
+}
