@@ -189,10 +189,10 @@ const ANSWERS: Values = Words(&[
     "1",
     "2",
     "3",
-    "10, below 11 bytes",
-    "10, whole",
-    "11, a column",
-    "11, a line end",
+    "10 below 11 bytes",
+    "10 whole",
+    "11 at a column",
+    "11 at a line end",
 ]);
 const LENGTHS: Values = Words(&["0", "1 to 10", "11 to 380", "above 380"]);
 /// The refused degrees that are drawn, in draw's order.
