@@ -1,16 +1,15 @@
--- What is shown by whether the card is refused, how long it is, and how it gets into the buffer.
+-- What is shown by whether the card is refused, and how long it is.
 -- Assumes nothing.
-use mathlib.Core.Path.{_≡_, sym, ap, _∙_}
+use mathlib.Core.Path.{_≡_, ap, _∙_}
 use mathlib.Core.Bool.{Bool, true, cond}
-use mathlib.Core.List.{List, [], _∷_, _++_}
-use Prim.Native.Nat.{ℕ, _≤_, _<_}
+use mathlib.Core.List.{List, [], _∷_}
+use Prim.Native.Nat.{ℕ, _≤_}
 use native.Mathlib.Omega.{arith}
 use lib.IntN.{pos}
-use lib.ListN.{length, take, drop, length-append, length-take}
-use borrow.Author.Tests.{le-leb, lt-leb, eq-eqb, ne-eqb}
+use lib.ListN.{length, take, length-append, length-take}
+use borrow.Author.Tests.{eq-eqb, ne-eqb}
 use Rattle.columns.specs.Line.{placed, allFit, afterLine}
 use Rattle.columns.proofs.Lines.{number-fits, fit-none, fit-more, line-long}
-use Rattle.columns.proofs.Placed.{placed-front}
 use Rattle.columns.proofs.Put.{line-put}
 use Rattle.curve.specs.declared.Curve.{Curve}
 use Rattle.curve.specs.declared.Refusal.{Refusal}
@@ -23,7 +22,7 @@ use Rattle.card_text.specs.Reading.{readCard}
 use Rattle.card_text.proofs.Fitting.{row-long}
 use Rattle.card_text.proofs.Places.{card-within}
 use Rattle.card_text.proofs.Promises.{read-refusal}
-use Rattle.card_report.specs.Report.{mostBytes, curveLines, refusalLine, shown, mostShown, reportLength, reportBytes}
+use Rattle.card_report.specs.Report.{mostBytes, curveLines, refusalLine, shown, mostShown}
 
 -- ---- lengths
 
@@ -68,26 +67,3 @@ module _ (input : List ℕ) where
   pub shown-accepted : readCard card .refusal .number ≡ 0 → shown input ≡ curveLines (readCard card .curve)
   unfolding shown
   shown-accepted h = ap (λ (b : Bool). shownIf b (readCard card)) (eq-eqb (readCard card .refusal .number) 0 h)
-
-  -- ---- the buffer
-
-  module _ (out : List ℕ) where
-    abbrev lengthIf : Bool → ℕ
-    lengthIf b = cond b (length (shown input)) 0
-
-    abbrev bytesIf : Bool → List ℕ
-    bytesIf b = cond b (shown input ++ drop (length (shown input)) out) out
-
-    pub too-short : length out < mostShown → (0 ≡ reportLength input out) × (out ≡ reportBytes input out)
-    unfolding reportLength reportBytes
-    too-short h = let t = sym (lt-leb mostShown (length out) h) in (ap lengthIf t, ap bytesIf t)
-
-    -- a text that is put at the front
-    pub reported : mostShown ≤ length out → {text last : List ℕ} {n : ℕ} → shown input ≡ text → length text ≡ n → last ≡ placed out 0 text →
-        (n ≡ reportLength input out) × (last ≡ reportBytes input out)
-    unfolding reportLength reportBytes
-    reported h {text} e w p =
-        let t = sym (le-leb mostShown (length out) h) in (
-          sym w ∙ ap length (sym e) ∙ ap lengthIf t,
-          p ∙ placed-front out text ∙ ap (λ (l : List ℕ). l ++ drop (length l) out) (sym e) ∙ ap bytesIf t,
-        )

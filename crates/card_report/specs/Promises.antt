@@ -5,7 +5,7 @@ use mathlib.Core.List.{List}
 use Prim.Native.Nat.{ℕ, _≤_}
 use lib.ListN.{length, getD, take}
 use Rattle.card_text.specs.Reading.{readCard}
-use Rattle.card_report.specs.Report.{mostBytes, shown, mostShown, reportLength, reportBytes}
+use Rattle.card_report.specs.Report.{mostBytes, shown, mostShown, reported}
 
 -- two lines of 41 bytes for a card that is read, and one of 21 for a refusal
 pub record Lines (input : List ℕ) : Type 0 where
@@ -17,14 +17,13 @@ ShownLines = (input : List ℕ) → Lines input
 
 -- the bytes that the call says it wrote are what is shown
 abbrev pub ReportShows : Type 0
-ReportShows =
-    (input out : List ℕ) → mostShown ≤ length out → take (reportLength input out) (reportBytes input out) ≡ shown input
+ReportShows = (input out : List ℕ) → take (length (shown input)) (reported input out) ≡ shown input
 
--- the buffer keeps its length and the bytes behind those
+-- what is shown fits the buffer, which keeps its length and the bytes behind
 pub record Kept (input out : List ℕ) : Type 0 where
-  pub fits : reportLength input out ≤ length out
-  pub size : length (reportBytes input out) ≡ length out
-  pub later : (k : ℕ) → reportLength input out ≤ k → getD (reportBytes input out) k 0 ≡ getD out k 0
+  pub fits : length (shown input) ≤ length out
+  pub size : length (reported input out) ≡ length out
+  pub later : (k : ℕ) → length (shown input) ≤ k → getD (reported input out) k 0 ≡ getD out k 0
 
 abbrev pub ReportKeeps : Type 0
-ReportKeeps = (input out : List ℕ) → Kept input out
+ReportKeeps = (input out : List ℕ) → length out ≡ mostShown → Kept input out

@@ -3,7 +3,7 @@
 use Prim.Native.Nat.{ℕ}
 use mathlib.Core.Bool.{cond}
 use mathlib.Core.List.{List, [], _∷_, _++_}
-use lib.Dec.{leb, eqb}
+use lib.Dec.{eqb}
 use lib.IntN.{pos}
 use lib.ListN.{length, take, drop}
 use Rattle.columns.specs.Line.{line}
@@ -31,16 +31,10 @@ shown input =
     let read = readCard (take mostBytes input) in
     cond (eqb (read .refusal .number) 0) (curveLines (read .curve)) (refusalLine (read .refusal))
 
--- ---- the call
-
 -- the bytes of two lines of rectangles, which are the longest report
 abbrev pub mostShown : ℕ
 mostShown = 82
 
--- how many bytes are written: none into a buffer that might be too short
-unfoldable pub reportLength : List ℕ → List ℕ → ℕ
-reportLength input out = cond (leb mostShown (length out)) (length (shown input)) 0
-
--- the buffer: the report in front and the later bytes kept, or all kept
-unfoldable pub reportBytes : List ℕ → List ℕ → List ℕ
-reportBytes input out = cond (leb mostShown (length out)) (shown input ++ drop (length (shown input)) out) out
+-- the buffer after the call: what is shown in front, and the later bytes kept
+unfoldable pub reported : List ℕ → List ℕ → List ℕ
+reported input out = shown input ++ drop (length (shown input)) out

@@ -23,6 +23,7 @@ pub enum Row {
     CardExample,
     CardProgram,
     CardLong,
+    CardPlaces,
     CardSlow,
     ReplayExamples,
     ReplayTexts,
@@ -32,7 +33,7 @@ pub enum Row {
 }
 
 /// Each row's name, and how many comparisons must agree.
-pub const ROWS: [(Row, &str, u64); 21] = [
+pub const ROWS: [(Row, &str, u64); 22] = [
     (Evaluate, "evaluate", 2_000_000),
     (Subdivide, "subdivide", 1_000_000),
     (Elevate, "elevate", 500_000),
@@ -48,6 +49,7 @@ pub const ROWS: [(Row, &str, u64); 21] = [
     (CardExample, "card, example of document 01", 1),
     (CardProgram, "card, cards", 500),
     (CardLong, "card, long input", 5),
+    (CardPlaces, "card, every place of a refusal", 76),
     (CardSlow, "card, slow pipe", 16),
     (ReplayExamples, "replay, examples", 13),
     (ReplayTexts, "replay, texts", 100),
@@ -100,7 +102,7 @@ pub enum Line {
     PanelAt,
     Changes,
     Refusals,
-    CardNumbers,
+    CardAnswers,
     Endings,
     Placed,
 }
@@ -144,6 +146,19 @@ pub enum Malformed {
     SideLineEnd,
 }
 
+/// What the program `card` answers: the curve, or a refusal and what of the card it names.
+#[derive(Clone, Copy, PartialEq, Debug)]
+pub enum CardAnswer {
+    Shown,
+    Degree,
+    Range,
+    Order,
+    Short,
+    Whole,
+    Column,
+    LineEnd,
+}
+
 /// The values of a line that must come: numbers from one to another, these numbers, or words.
 #[derive(Clone, Copy)]
 pub enum Values {
@@ -158,7 +173,7 @@ const REACHED: Values = Words(&["neither", "-16,777,216", "16,777,216", "both"])
 const LENT: Values = Words(&["fewer", "as many", "more"]);
 const PIECES: Values = Words(&["1", "2 to 63", "64 to 1,023", "1,024 to 8,191"]);
 const FITS: Values = Words(&["one short", "exact", "one more"]);
-/// In the order of the enums At, Ohm, Kind and Malformed.
+/// In the order of the enums At, Ohm, Kind, Malformed and CardAnswer.
 const AT: Values = Words(&["0", "1", "between", "den 1", "den 65,536", "den between"]);
 const OHMS: Values = Words(&["0", "below 0", "above 0", "-16,384", "16,384"]);
 const KINDS: Values = Words(&[
@@ -169,6 +184,16 @@ const KINDS: Values = Words(&[
     "of the right length, but refused",
 ]);
 const MALFORMED: Values = Words(&["degree", "its line end", "side", "a side's line end"]);
+const ANSWERS: Values = Words(&[
+    "shown",
+    "1",
+    "2",
+    "3",
+    "10 below 11 bytes",
+    "10 whole",
+    "11 at a column",
+    "11 at a line end",
+]);
 const LENGTHS: Values = Words(&["0", "1 to 10", "11 to 380", "above 380"]);
 /// The refused degrees that are drawn, in draw's order.
 const REFUSED: Values = Words(&[
@@ -310,12 +335,7 @@ pub const GROUPS: [Group; 11] = [
     (
         "programs",
         &[
-            (
-                CardNumbers,
-                "card, answers",
-                These(&[0, 1, 2, 3, 10, 11]),
-                10,
-            ),
+            (CardAnswers, "card, answers", ANSWERS, 10),
             (Endings, "replay, damaged texts end", ENDINGS, 10),
             (Placed, "replay, places", PLACED, 100),
         ],

@@ -87,6 +87,7 @@ fn trial<'a>(rng: &'a mut Rng, tally: &'a mut Tally) -> Trial<'a> {
 fn run_programs(replay_path: &Path, card_path: &Path, tally: &mut Tally) -> Result<(), String> {
     card::compare_example(card_path, tally)?;
     card::compare_long(card_path, tally)?;
+    card::compare_places(card_path, tally)?;
     replay::compare_examples(replay_path, tally)?;
     in_parts(5, CARDS_PRINTED, tally, |_, rng, tally| {
         card::compare(card_path, rng, tally)

@@ -9,7 +9,7 @@ use Rattle.card_report.proofs.card_of.Statement.{statement}
 use Rattle.card_report.proofs.card_of.Tie as tie
 
 slice-aggregate-result : tie.Need-slice-aggregate-result
-slice-aggregate-result c = sym (length-take-le mostBytes (c .before .before .args .input .now) (omega arith))
+slice-aggregate-result c = sym (length-take-le _ (c .before .before .args .input .now) (omega arith))
 
 returns : tie.Need-returns
 returns c = search needs

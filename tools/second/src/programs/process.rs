@@ -5,6 +5,7 @@ use std::path::Path;
 use std::process::{Child, Command, Output, Stdio};
 
 /// What a program wrote to standard output and standard error, and its exit status.
+#[derive(PartialEq)]
 pub struct Written {
     pub bytes: Vec<u8>,
     pub errors: Vec<u8>,

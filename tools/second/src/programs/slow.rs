@@ -31,7 +31,7 @@ pub fn compare_card(program: &Path, rng: &mut Rng, tally: &mut Tally) -> Result<
     drop(to);
     let output = child.wait_with_output();
     let came = output.map_err(|error| error.to_string())?.into();
-    card::compare_lines(&card, &came, Row::CardSlow, tally)
+    card::compare_written(&card, &came, Row::CardSlow, tally)
 }
 
 /// Compares the answers of `replay` to one case, each as it comes, and how it ends.
