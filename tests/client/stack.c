@@ -131,47 +131,70 @@ static size_t touched(void (*call)(void), int pattern)
     return (size_t)(caller - (stack + kept));
 }
 
-int main(int argc, char **argv)
+/* The most bytes that each call took so far, and whether a search has reached its greatest depth. */
+static size_t most[CALLS];
+static int deepest;
+
+/* Makes every call once on a stack filled with a pattern. */
+static void measure_calls(int pattern)
+{
+    for (size_t c = 0; c < CALLS; c++) {
+        size_t took = touched(calls[c].call, pattern);
+        most[c] = took > most[c] ? took : most[c];
+        if (calls[c].call == call_search && answer == 0 && verdict[1] == MAX_DEPTH)
+            deepest = 1;
+    }
+}
+
+/* Makes every call at every parameter with every pattern. */
+static void measure_parameters(void)
 {
     static const uint32_t parameters[][2] = {{0, 1}, {1, 2}, {1, 3}, {65535, 65536}, {7, 7}, {1, 0}, {8, 7}};
-    static const int patterns[] = {0x00, 0xa5, 0xff};
-    size_t most[CALLS] = {0};
-    int deepest = 0;
+    for (size_t p = 0; p < sizeof parameters / sizeof parameters[0]; p++) {
+        num = parameters[p][0];
+        den = parameters[p][1];
+        measure_calls(0x00);
+        measure_calls(0xa5);
+        measure_calls(0xff);
+    }
+}
+
+/* Reads a card, and the curve on it unless it is refused: then the curve before it stays. */
+static void take_card(const char *path)
+{
+    if (freopen(path, "rb", stdin) == NULL) {
+        perror(path);
+        exit(BAD_USAGE);
+    }
+    card_length = read_input(card);
+    if (jusqani_read_card(card, card_length, curve, MAX_CURVE) == 0) {
+        /* A corner of rectangle 0: the search goes down to the piece at the curve's start. */
+        limits[0] = limits[1] = curve[1];
+        limits[2] = limits[3] = curve[3];
+    }
+}
+
+static void show(void)
+{
+    printf("stack:");
+    for (size_t c = 0; c < CALLS; c++)
+        printf("%s %s %zu", c == 0 ? "" : ",", calls[c].name, most[c]);
+    printf(" bytes\n");
+}
+
+int main(int argc, char **argv)
+{
     if (argc < 2) {
         fprintf(stderr, "usage: %s CARD...\n", argv[0]);
         return BAD_USAGE;
     }
     for (int k = 1; k < argc; k++) {
-        if (freopen(argv[k], "rb", stdin) == NULL) {
-            perror(argv[k]);
-            return BAD_USAGE;
-        }
-        card_length = read_input(card);
-        /* A refused card leaves the last curve. */
-        if (jusqani_read_card(card, card_length, curve, MAX_CURVE) == 0) {
-            /* A corner of rectangle 0: the search goes down to the piece at the curve's start. */
-            limits[0] = limits[1] = curve[1];
-            limits[2] = limits[3] = curve[3];
-        }
-        for (size_t p = 0; p < sizeof parameters / sizeof parameters[0]; p++) {
-            num = parameters[p][0];
-            den = parameters[p][1];
-            for (size_t f = 0; f < sizeof patterns / sizeof patterns[0]; f++) {
-                for (size_t c = 0; c < CALLS; c++) {
-                    size_t took = touched(calls[c].call, patterns[f]);
-                    most[c] = took > most[c] ? took : most[c];
-                    if (calls[c].call == call_search && answer == 0 && verdict[1] == MAX_DEPTH)
-                        deepest = 1;
-                }
-            }
-        }
+        take_card(argv[k]);
+        measure_parameters();
     }
     if (!deepest)
         fail("no search reached its greatest depth");
-    printf("stack:");
-    for (size_t c = 0; c < CALLS; c++)
-        printf("%s %s %zu", c == 0 ? "" : ",", calls[c].name, most[c]);
-    printf(" bytes\n");
+    show();
     if (most[0] > PANEL_STACK_BOUND) {
         fprintf(stderr, "stack: the panel call took %zu bytes, its bound is %d\n", most[0], PANEL_STACK_BOUND);
         return PROMISE_BROKEN;

@@ -9,6 +9,10 @@ use std::time::Duration;
 const CALLS: &[u8] = include_bytes!("calls");
 const ANSWERS: &[u8] = include_bytes!("answers");
 
+/// The list of calls that README shows, and its answers.
+const DIPOLE: &str = include_str!("../../../examples/dipole.calls");
+const DIPOLE_ANSWERS: &str = include_str!("dipole_answers");
+
 const CARD: &str = "         1
          0         1        -3        -3
          1         3         0         2
@@ -73,6 +77,7 @@ fn runs_to_the_end() {
     expect(&run(&[], CARD), 0, "         0         1\n", "");
     let closed = format!("{CARD}         0\n");
     expect(&run(&[], &closed), 0, "         0         1\n", "");
+    expect(&run(&[], DIPOLE), 0, DIPOLE_ANSWERS, "");
 }
 
 /// A fourth line behind the card, the column where it is wrong, and the words for it.

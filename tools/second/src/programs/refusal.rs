@@ -47,7 +47,7 @@ pub fn said(card: &[u8], refusal: &Refusal) -> Vec<u8> {
         1 => "the degree is not 1 to 8",
         2 => "a side is out of range (16,384 ohms either way)",
         3 => "a low side is above its high side",
-        10 => "the card's length is not the length for its degree",
+        10 => "the card has fewer than 11 bytes, or not the length for its degree",
         _ => "a column is malformed, or a line does not end with byte 10",
     };
     let place = place(card, refusal);
