@@ -9,7 +9,7 @@ use curve::bounds;
 use curve::evaluate;
 
 // The most bytes that are taken as a card.
-pub const MOST_BYTES: usize = 4096;
+const MOST_BYTES: usize = 4096;
 
 // The bytes of a rectangle's line, of a refusal's line, and of two rectangles' lines, which are the longest report.
 const LINE_LENGTH: usize = 41;

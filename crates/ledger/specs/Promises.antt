@@ -1,4 +1,4 @@
--- What is promised of the pieces of a subdivision: they cover the stretch of their parent that the ledger says.
+-- What is promised of the pieces of a subdivision: the left one covers the first part of its parent's stretch, the right one the rest.
 -- Assumes nothing.
 use Prim.Native.Nat.{ℕ}
 use Rattle.rational.specs.Fraction.{Frac, Equal, _+ᶠ_, _*ᶠ_, complement}
@@ -16,7 +16,7 @@ abbrev pub part : Piece → Frac → Ordinary → Ordinary
 part left t o = record { degree = o .degree; control = λ x. DeCasteljau.left (exactAffine t) (o .control x) }
 part right t o = record { degree = o .degree; control = λ x. DeCasteljau.right (exactAffine t) (o .control x) (o .degree) }
 
--- where u on a piece lies on its parent: a left piece covers the first t of the parent's stretch, the right one the rest
+-- where u on a piece lies on its parent: the left piece is the parent from 0 to t, the right one from t to 1
 abbrev pub placeOn : Piece → Frac → Frac → Frac
 placeOn left t u = t *ᶠ u
 placeOn right t u = t +ᶠ complement t *ᶠ u
