@@ -1,9 +1,11 @@
 -- What is promised of rounding, over any divisor above 0, for numbers above and below zero, and of fractions.
 -- Assumes nothing.
+use mathlib.Core.Path.{_≡_}
+use mathlib.Core.Bool.{true}
 use Prim.Native.Nat.{ℕ, _*_, _<_}
 use lib.IntN.{ℤ, pos, _+ℤ_, _*ℤ_}
 use lib.Signed.{_≤ℤ_}
-use Rattle.rational.specs.Rounding.{down, up, quotient}
+use Rattle.rational.specs.Rounding.{Rounding, down, up, quotient, divisible}
 use Rattle.rational.specs.Fraction.{Frac, _+ᶠ_, _*ᶠ_, _≤ᶠ_, Equal, whole}
 
 -- rounded down, a quotient is the greatest whole number that is at most the exact one
@@ -17,6 +19,12 @@ abbrev pub RoundsUp : Type 0
 RoundsUp =
     (d : ℕ) → 0 < d → (z : ℤ) →
     (z ≤ℤ (quotient up z d *ℤ pos d)) × ((m : ℤ) → z ≤ℤ (m *ℤ pos d) → quotient up z d ≤ℤ m)
+
+-- a division that leaves no remainder is exact, rounded either way, and every multiple of the divisor leaves none
+abbrev pub NoRemainder : Type 0
+NoRemainder =
+    (d : ℕ) → 0 < d →
+    ((z : ℤ) → divisible z d ≡ true → (r : Rounding) → quotient r z d *ℤ pos d ≡ z) × ((m : ℤ) → divisible (m *ℤ pos d) d ≡ true)
 
 -- equal fractions have equal sums and products, and compare alike
 pub record ByValue : Type 0 where

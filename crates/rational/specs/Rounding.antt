@@ -1,7 +1,9 @@
 -- A whole number divided by a natural number and rounded to a whole number: down for a low side, up for a high side, also below zero.
 -- Assumes nothing.
-use Prim.Native.Nat.{ℕ, _/_}
-use lib.IntN.{ℤ, pos, negsuc, negℤ}
+use mathlib.Core.Bool.{Bool}
+use Prim.Native.Nat.{ℕ, _/_, _%_}
+use lib.Dec.{eqb}
+use lib.IntN.{ℤ, pos, negsuc, negℤ, natAbs}
 
 -- the way a quotient is rounded
 pub data Rounding : Type 0 where
@@ -21,3 +23,7 @@ ceiling z d = negℤ (floor (negℤ z) d)
 unfoldable pub quotient : Rounding → ℤ → ℕ → ℤ
 quotient down z d = floor z d
 quotient up z d = ceiling z d
+
+-- whether z / d leaves no remainder
+unfoldable pub divisible : ℤ → ℕ → Bool
+divisible z d = eqb (natAbs z % d) 0
