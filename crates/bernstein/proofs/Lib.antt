@@ -1,5 +1,6 @@
 -- Laws of the definitions in specs/, and the promise.
 pub mod Table
+pub mod EveryMap
 pub mod Elevate
 pub mod Semiring
 pub mod Exact
@@ -12,3 +13,4 @@ pub mod Promises
 pub mod Convex
 pub mod Curve
 pub mod Rounded
+pub mod Unrounded

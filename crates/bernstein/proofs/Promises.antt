@@ -13,13 +13,15 @@ use Rattle.bernstein.proofs.Table.{table-image}
 use Rattle.bernstein.proofs.Exact.{mix}
 use Rattle.bernstein.proofs.Rationals.{rationals, bernstein-value}
 
--- the table of fractions, as rational numbers
+-- the map and the table of fractions, as rational numbers
+pub exact-affine : (x a b : Frac) → rat (exactAffine x a b) ≡ mix rationals (rat (complement x)) (rat x) (rat a) (rat b)
+unfolding mix
+exact-affine x a b = rat-add (complement x *ᶠ a) (x *ᶠ b) ∙ ap₂ _+ℚ_ (rat-mul (complement x) a) (rat-mul x b)
+
 pub exact-table :
     (x : Frac) (p : ℕ → Frac) (j k : ℕ) →
     rat (table (exactAffine x) p j k) ≡ table (mix rationals (rat (complement x)) (rat x)) (λ k. rat (p k)) j k
-unfolding mix
-exact-table x = table-image (exactAffine x) (mix rationals (rat (complement x)) (rat x)) rat
-    (λ a b. rat-add (complement x *ᶠ a) (x *ᶠ b) ∙ ap₂ _+ℚ_ (rat-mul (complement x) a) (rat-mul x b))
+exact-table x = table-image (exactAffine x) (mix rationals (rat (complement x)) (rat x)) rat (exact-affine x)
 
 pub sum-is-value : SumIsValue
 unfolding value
