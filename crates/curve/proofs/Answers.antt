@@ -13,7 +13,7 @@ use Rattle.curve.specs.declared.Elevation.{Elevation}
 use Rattle.curve.specs.declared.Enclosure.{Enclosure}
 use Rattle.curve.specs.Limits.{maxDegree}
 use Rattle.curve.specs.Rect.{zeroRect}
-use Rattle.curve.specs.Curve.{zeroCurve, loadOf, leftOf, rightOf, elevatedOf, boundsOf}
+use Rattle.curve.specs.Curve.{zeroCurve, loadOf, leftOf, rightOf, tableExact, elevatedOf, elevationExact, boundsOf}
 use Rattle.curve.specs.Ohms.{ohmsOf, zeroOhms}
 use Rattle.curve.specs.Refusals.{none, curveRefusal, Accepted, AcceptedAt}
 use Rattle.curve.specs.Calls.{callRefusal, elevationRefusal, evaluated, subdivided, elevated, bounded}
@@ -34,58 +34,64 @@ module _ {A : Type 0} (result zeros : Refusal → A) (r : Refusal) where
       go true = h
       go false = k
 
-abbrev pub evaluation : Rect → Refusal → Evaluation
-evaluation p r = record { refusal = r; load = p; ohms = ohmsOf p }
+abbrev pub evaluation : Rect → Bool → Refusal → Evaluation
+evaluation p b r = record { refusal = r; load = p; ohms = ohmsOf p; exact = b }
 
 abbrev pub noEvaluation : Refusal → Evaluation
-noEvaluation r = record { refusal = r; load = zeroRect; ohms = zeroOhms }
+noEvaluation r = record { refusal = r; load = zeroRect; ohms = zeroOhms; exact = false }
 
-abbrev pub subdivision : Curve → Curve → Refusal → Subdivision
-subdivision l r x = record { refusal = x; left = l; right = r }
+abbrev pub subdivision : Curve → Curve → Bool → Refusal → Subdivision
+subdivision l r b x = record { refusal = x; left = l; right = r; exact = b }
 
-abbrev pub elevation : Curve → Refusal → Elevation
-elevation c r = record { refusal = r; curve = c }
+abbrev pub noSubdivision : Refusal → Subdivision
+noSubdivision = subdivision zeroCurve zeroCurve false
+
+abbrev pub elevation : Curve → Bool → Refusal → Elevation
+elevation c b r = record { refusal = r; curve = c; exact = b }
+
+abbrev pub noElevation : Refusal → Elevation
+noElevation = elevation zeroCurve false
 
 abbrev pub enclosure : Rect → Refusal → Enclosure
 enclosure p r = record { refusal = r; rect = p }
 
 module _ (c : Curve) (num den : ℕ) where
-  pub evaluated-accepted : Accepted c → AcceptedAt num den → evaluated c num den ≡ evaluation (loadOf c num den) none
+  pub evaluated-accepted : Accepted c → AcceptedAt num den → evaluated c num den ≡ evaluation (loadOf c num den) (tableExact c num den) none
   unfolding evaluated
-  evaluated-accepted a b = where-none (evaluation (loadOf c num den)) noEvaluation (callRefusal c num den) (accepted-call c num den a b)
+  evaluated-accepted a b = where-none (evaluation (loadOf c num den) (tableExact c num den)) noEvaluation (callRefusal c num den) (accepted-call c num den a b)
 
   pub evaluated-refused : eqb (callRefusal c num den .number) 0 ≡ false → evaluated c num den ≡ noEvaluation (callRefusal c num den)
   unfolding evaluated
-  evaluated-refused h = where-some (evaluation (loadOf c num den)) noEvaluation (callRefusal c num den) h
+  evaluated-refused h = where-some (evaluation (loadOf c num den) (tableExact c num den)) noEvaluation (callRefusal c num den) h
 
   pub evaluated-refusal : evaluated c num den .refusal ≡ callRefusal c num den
   unfolding evaluated
-  evaluated-refusal = in-both (evaluation (loadOf c num den)) noEvaluation (callRefusal c num den) (λ x. x .refusal) _ refl refl
+  evaluated-refusal = in-both (evaluation (loadOf c num den) (tableExact c num den)) noEvaluation (callRefusal c num den) (λ x. x .refusal) _ refl refl
 
-  pub subdivided-accepted : Accepted c → AcceptedAt num den → subdivided c num den ≡ subdivision (leftOf c num den) (rightOf c num den) none
+  pub subdivided-accepted : Accepted c → AcceptedAt num den → subdivided c num den ≡ subdivision (leftOf c num den) (rightOf c num den) (tableExact c num den) none
   unfolding subdivided
-  subdivided-accepted a b = where-none (subdivision (leftOf c num den) (rightOf c num den)) (subdivision zeroCurve zeroCurve) (callRefusal c num den) (accepted-call c num den a b)
+  subdivided-accepted a b = where-none (subdivision (leftOf c num den) (rightOf c num den) (tableExact c num den)) noSubdivision (callRefusal c num den) (accepted-call c num den a b)
 
-  pub subdivided-refused : eqb (callRefusal c num den .number) 0 ≡ false → subdivided c num den ≡ subdivision zeroCurve zeroCurve (callRefusal c num den)
+  pub subdivided-refused : eqb (callRefusal c num den .number) 0 ≡ false → subdivided c num den ≡ noSubdivision (callRefusal c num den)
   unfolding subdivided
-  subdivided-refused h = where-some (subdivision (leftOf c num den) (rightOf c num den)) (subdivision zeroCurve zeroCurve) (callRefusal c num den) h
+  subdivided-refused h = where-some (subdivision (leftOf c num den) (rightOf c num den) (tableExact c num den)) noSubdivision (callRefusal c num den) h
 
   pub subdivided-refusal : subdivided c num den .refusal ≡ callRefusal c num den
   unfolding subdivided
-  subdivided-refusal = in-both (subdivision (leftOf c num den) (rightOf c num den)) (subdivision zeroCurve zeroCurve) (callRefusal c num den) (λ x. x .refusal) _ refl refl
+  subdivided-refusal = in-both (subdivision (leftOf c num den) (rightOf c num den) (tableExact c num den)) noSubdivision (callRefusal c num den) (λ x. x .refusal) _ refl refl
 
 module _ (c : Curve) where
-  pub elevated-accepted : Accepted c → c .degree < maxDegree → elevated c ≡ elevation (elevatedOf c) none
+  pub elevated-accepted : Accepted c → c .degree < maxDegree → elevated c ≡ elevation (elevatedOf c) (elevationExact c) none
   unfolding elevated
-  elevated-accepted a h = where-none (elevation (elevatedOf c)) (elevation zeroCurve) (elevationRefusal c) (accepted-elevation c a h)
+  elevated-accepted a h = where-none (elevation (elevatedOf c) (elevationExact c)) noElevation (elevationRefusal c) (accepted-elevation c a h)
 
-  pub elevated-refused : eqb (elevationRefusal c .number) 0 ≡ false → elevated c ≡ elevation zeroCurve (elevationRefusal c)
+  pub elevated-refused : eqb (elevationRefusal c .number) 0 ≡ false → elevated c ≡ noElevation (elevationRefusal c)
   unfolding elevated
-  elevated-refused h = where-some (elevation (elevatedOf c)) (elevation zeroCurve) (elevationRefusal c) h
+  elevated-refused h = where-some (elevation (elevatedOf c) (elevationExact c)) noElevation (elevationRefusal c) h
 
   pub elevated-refusal : elevated c .refusal ≡ elevationRefusal c
   unfolding elevated
-  elevated-refusal = in-both (elevation (elevatedOf c)) (elevation zeroCurve) (elevationRefusal c) (λ x. x .refusal) _ refl refl
+  elevated-refusal = in-both (elevation (elevatedOf c) (elevationExact c)) noElevation (elevationRefusal c) (λ x. x .refusal) _ refl refl
 
   pub bounded-accepted : Accepted c → bounded c ≡ enclosure (boundsOf c) none
   unfolding bounded

@@ -1,12 +1,14 @@
--- The elevated curve's control points: the first and the last stay, and each other one is one map.
+-- The elevated curve's control points: the first and the last stay and leave no remainder, and each other one is one map.
 -- Assumes nothing.
 use mathlib.Core.Path.{_≡_, sym, ap, ap₂, _∙_}
+use mathlib.Core.Bool.{true}
 use Prim.Native.Nat.{ℕ, _+_, _-_}
+use native.Mathlib.Nat.{sub-self}
 use native.Mathlib.Omega.{arith}
 use Rattle.curve.specs.declared.Rect.{Rect}
-use Rattle.curve.specs.Rect.{affineRect}
-use Rattle.curve.specs.Curve.{elevatedPoint}
-use Rattle.curve.proofs.EndPoints.{affine-rect-first, affine-rect-second}
+use Rattle.curve.specs.Rect.{affineRect, exactRect}
+use Rattle.curve.specs.Curve.{elevatedPoint, elevatedExact}
+use Rattle.curve.proofs.EndPoints.{affine-rect-first, affine-rect-second, exact-rect-first, exact-rect-second}
 
 module _ (n : ℕ) (P : ℕ → Rect) where
   pub elevated-first : P 0 ≡ elevatedPoint n P 0
@@ -28,3 +30,21 @@ module _ (n : ℕ) (P : ℕ → Rect) where
   elevated-next k =
       let one-less : k + 1 - 1 ≡ k = omega arith in
       ap (λ (i : ℕ). affineRect (k + 1) (n + 1 - (k + 1)) (n + 1) (P i) (P (k + 1))) (sym one-less)
+
+  pub exact-first : elevatedExact n P 0 ≡ true
+  unfolding elevatedExact
+  exact-first =
+      let all : n + 1 - 0 ≡ n + 1 = omega arith in
+      ap (λ (m : ℕ). exactRect 0 m (n + 1) (P 0) (P 0)) all ∙ exact-rect-second (n + 1) (omega arith) (P 0) (P 0)
+
+  pub exact-last : elevatedExact n P (n + 1) ≡ true
+  unfolding elevatedExact
+  exact-last =
+      ap (λ (m : ℕ). exactRect (n + 1) m (n + 1) (P (n + 1 - 1)) (P (n + 1))) (sub-self (n + 1))
+      ∙ exact-rect-first (n + 1) (omega arith) (P (n + 1 - 1)) (P (n + 1))
+
+  pub exact-next : (k : ℕ) → exactRect (k + 1) (n + 1 - (k + 1)) (n + 1) (P k) (P (k + 1)) ≡ elevatedExact n P (k + 1)
+  unfolding elevatedExact
+  exact-next k =
+      let one-less : k + 1 - 1 ≡ k = omega arith in
+      ap (λ (i : ℕ). exactRect (k + 1) (n + 1 - (k + 1)) (n + 1) (P i) (P (k + 1))) (sym one-less)

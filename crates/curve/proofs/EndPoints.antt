@@ -1,28 +1,29 @@
 -- A point whose weight is the whole divisor is kept exactly, so the reading at 0/den is control point 0, and at den/den control point n.
 -- Assumes nothing.
 use mathlib.Core.Path.{_≡_, sym, ap, _∙_}
-use mathlib.Core.Bool.{Bool, _&&_}
+use mathlib.Core.Bool.{Bool, true, _&&_}
 use Prim.Native.Nat.{ℕ, zero, suc, _+_, _<_}
 use native.Mathlib.Nat.{le-refl, sub-zero, sub-self, zero-add, add-zero, add-suc, suc-add}
 use lib.Dec.{leb, leb·zero}
 use borrow.Author.Tests.{le-leb}
 use lib.IntN.{ℤ, pos, _+ℤ_, _*ℤ_, zero-*ℤ, *ℤ-comm, +ℤ-idr, +ℤ-idl}
-use Rattle.rational.specs.Rounding.{Rounding, quotient}
+use Rattle.rational.specs.Rounding.{Rounding, quotient, divisible}
 use Rattle.rational.proofs.Quotient.{quotient-exact}
-use Rattle.bernstein.specs.Affine.{affine}
+use Rattle.rational.proofs.Divisible.{multiple-divisible}
+use Rattle.bernstein.specs.Affine.{affine, affineExact}
 use Rattle.bernstein.specs.DeCasteljau.{table, value}
 use Rattle.bernstein.proofs.Table.{table-zero, table-suc}
 use Rattle.curve.specs.declared.Rect.{Rect}
 use Rattle.curve.specs.declared.Curve.{Curve}
 use Rattle.curve.specs.declared.Evaluation.{Evaluation}
 use Rattle.curve.specs.Limits.{maxDen}
-use Rattle.curve.specs.Rect.{side, affineRect}
+use Rattle.curve.specs.Rect.{side, affineRect, exactRect}
 use Rattle.curve.specs.Curve.{point, mapAt, loadOf}
 use Rattle.curve.specs.Promises.{EndPoints}
 use Rattle.curve.specs.Refusals.{_orElse_, unless, parameterRefusal, AcceptedAt}
 use Rattle.curve.proofs.Accepted.{parameter-facts}
 use Rattle.curve.proofs.Answers.{evaluated-accepted}
-use Rattle.curve.proofs.RectSides.{affine-rect-is}
+use Rattle.curve.proofs.RectSides.{affine-rect-is, sides-exact}
 
 module _ (d : ℕ) (positive : 0 < d) where
   affine-first : (r : Rounding) (a b : ℤ) → affine r d 0 d a b ≡ a
@@ -44,6 +45,27 @@ module _ (d : ℕ) (positive : 0 < d) where
 
   pub affine-rect-second : (p q : Rect) → affineRect 0 d d p q ≡ q
   affine-rect-second p q = affine-rect-is 0 d d p q q (λ x r. affine-second r (side x r p) (side x r q))
+
+  -- and nothing is left of it
+  exact-first : (a b : ℤ) → affineExact d 0 d a b ≡ true
+  unfolding affineExact
+  exact-first a b =
+      ap (λ (x : ℤ). divisible (pos d *ℤ a +ℤ x) d) (zero-*ℤ b)
+      ∙ ap (λ (x : ℤ). divisible x d) (+ℤ-idr (pos d *ℤ a) ∙ *ℤ-comm (pos d) a)
+      ∙ multiple-divisible d a
+
+  exact-second : (a b : ℤ) → affineExact 0 d d a b ≡ true
+  unfolding affineExact
+  exact-second a b =
+      ap (λ (x : ℤ). divisible (x +ℤ pos d *ℤ b) d) (zero-*ℤ a)
+      ∙ ap (λ (x : ℤ). divisible x d) (+ℤ-idl (pos d *ℤ b) ∙ *ℤ-comm (pos d) b)
+      ∙ multiple-divisible d b
+
+  pub exact-rect-first : (p q : Rect) → exactRect d 0 d p q ≡ true
+  exact-rect-first p q = sides-exact d 0 d p q (λ x r. exact-first (side x r p) (side x r q))
+
+  pub exact-rect-second : (p q : Rect) → exactRect 0 d d p q ≡ true
+  exact-rect-second p q = sides-exact 0 d d p q (λ x r. exact-second (side x r p) (side x r q))
 
 -- a map that keeps its first point, or its second, keeps the first point of all, or the last
 module _ {A : Type 0} (map : A → A → A) (P : ℕ → A) where
@@ -67,7 +89,7 @@ module _ (c : Curve) (den : ℕ) (positive : 0 < den) where
       ∙ ap (point c) (add-zero (c .degree))
 
 -- num = 0 is accepted where num = den is
-start-accepted : (den : ℕ) → AcceptedAt den den → AcceptedAt 0 den
+pub start-accepted : (den : ℕ) → AcceptedAt den den → AcceptedAt 0 den
 unfolding parameterRefusal
 start-accepted den h =
     ap (λ (b : Bool). unless (leb 1 den && leb den maxDen) 4 orElse unless b 5) (leb·zero den ∙ sym (le-leb den den (le-refl den))) ∙ h

@@ -9,28 +9,31 @@ use Rattle.curve.specs.declared.Rect.{Rect}
 use Rattle.curve.specs.declared.Curve.{Curve}
 use Rattle.curve.specs.declared.Refusal.{Refusal}
 use Rattle.curve.specs.Rect.{zeroRect}
-use Rattle.curve.specs.Curve.{curveOf, zeroCurve, loadOf, leftOf, rightOf, elevatedOf, boundsOf}
+use Rattle.curve.specs.Curve.{curveOf, loadOf, leftOf, rightOf, tableExact, elevatedOf, elevationExact, boundsOf}
 use Rattle.curve.specs.Refusals.{curveRefusal}
 use Rattle.curve.specs.Calls.{callRefusal, elevationRefusal, evaluated, subdivided, elevated, bounded}
 use Rattle.curve.proofs.Places.{points-agree}
-use Rattle.curve.proofs.Answers.{evaluation, noEvaluation, subdivision, elevation, enclosure}
+use Rattle.curve.proofs.Answers.{evaluation, noEvaluation, subdivision, noSubdivision, elevation, noElevation, enclosure}
 
 module _ (c e : Curve) (num den num′ den′ : ℕ) (refusals : callRefusal c num den ≡ callRefusal e num′ den′) where
-  pub evaluated-equal : loadOf c num den ≡ loadOf e num′ den′ → evaluated c num den ≡ evaluated e num′ den′
+  pub evaluated-equal :
+      loadOf c num den ≡ loadOf e num′ den′ → tableExact c num den ≡ tableExact e num′ den′ → evaluated c num den ≡ evaluated e num′ den′
   unfolding evaluated
-  evaluated-equal = ap₂ (λ (r : Refusal) (p : Rect). cond (eqb (r .number) 0) (evaluation p r) (noEvaluation r)) refusals
+  evaluated-equal p b i = let r : Refusal = refusals i in cond (eqb (r .number) 0) (evaluation (p i) (b i) r) (noEvaluation r)
 
   pub subdivided-equal :
-      leftOf c num den ≡ leftOf e num′ den′ → rightOf c num den ≡ rightOf e num′ den′ → subdivided c num den ≡ subdivided e num′ den′
+      leftOf c num den ≡ leftOf e num′ den′ → rightOf c num den ≡ rightOf e num′ den′ → tableExact c num den ≡ tableExact e num′ den′ →
+      subdivided c num den ≡ subdivided e num′ den′
   unfolding subdivided
-  subdivided-equal p q i =
-      let r : Refusal = refusals i in
-      cond (eqb (r .number) 0) (subdivision (p i) (q i) r) (subdivision zeroCurve zeroCurve r)
+  subdivided-equal p q b i =
+      let r : Refusal = refusals i in cond (eqb (r .number) 0) (subdivision (p i) (q i) (b i) r) (noSubdivision r)
 
 module _ (c e : Curve) where
-  pub elevated-equal : elevationRefusal c ≡ elevationRefusal e → elevatedOf c ≡ elevatedOf e → elevated c ≡ elevated e
+  pub elevated-equal :
+      elevationRefusal c ≡ elevationRefusal e → elevatedOf c ≡ elevatedOf e → elevationExact c ≡ elevationExact e → elevated c ≡ elevated e
   unfolding elevated
-  elevated-equal = ap₂ (λ (r : Refusal) (a : Curve). cond (eqb (r .number) 0) (elevation a r) (elevation zeroCurve r))
+  elevated-equal refusals p b i =
+      let r : Refusal = refusals i in cond (eqb (r .number) 0) (elevation (p i) (b i) r) (noElevation r)
 
   pub bounded-equal : curveRefusal c ≡ curveRefusal e → boundsOf c ≡ boundsOf e → bounded c ≡ bounded e
   unfolding bounded

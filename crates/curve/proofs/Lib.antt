@@ -1,11 +1,12 @@
 -- Laws of the definitions in specs/, and the promises.
 pub mod Machine
 pub mod Sides
-pub mod Reciprocal
-pub mod Rises
+pub mod Estimate
+pub mod Weighing
 pub mod Refused
 pub mod Places
 pub mod Stages
+pub mod MadeTable
 pub mod Tests
 pub mod Accepted
 pub mod Answers
@@ -24,3 +25,4 @@ pub mod ZeroPast
 pub mod RectSides
 pub mod EqualAnswers
 pub mod ElevatedPoints
+pub mod Flags

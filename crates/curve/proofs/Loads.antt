@@ -11,7 +11,7 @@ use Rattle.curve.specs.declared.Evaluation.{Evaluation}
 use Rattle.curve.specs.declared.Rect.{Rect}
 use Rattle.curve.specs.declared.Subdivision.{Subdivision}
 use Rattle.curve.specs.Rect.{zeroRect}
-use Rattle.curve.specs.Curve.{point}
+use Rattle.curve.specs.Curve.{point, tableExact}
 use Rattle.curve.specs.Ohms.{ohm, ohmsOf, zeroOhms}
 use Rattle.curve.specs.Refusals.{none}
 use Rattle.curve.specs.Inner.{Held}
@@ -31,7 +31,7 @@ module _ (c : Curve) (num den : ℕ) where
   first s = point (s .right) 0
 
   abbrev read : Subdivision → Evaluation
-  read s = evaluation (first s) (s .refusal)
+  read s = evaluation (first s) (s .exact) (s .refusal)
 
   pub first-held : Held (first (subdivided c num den))
   first-held = pieces-ranged c num den .1 .held 0 (omega arith)
@@ -43,13 +43,13 @@ module _ (c : Curve) (num den : ℕ) where
       accepted h =
           let (ok, at) = call-accepted c num den h in
           ap read (subdivided-accepted c num den ok at)
-          ∙ ap (λ (p : Rect). evaluation p none) (right-load c num den ok)
+          ∙ ap (λ (p : Rect). evaluation p (tableExact c num den) none) (right-load c num den ok)
           ∙ sym (evaluated-accepted c num den ok at)
 
       refused : eqb (callRefusal c num den .number) 0 ≡ false → read (subdivided c num den) ≡ evaluated c num den
       refused e =
           ap read (subdivided-refused c num den e)
-          ∙ ap (λ (p : Rect). evaluation p (callRefusal c num den)) zero-first
+          ∙ ap (λ (p : Rect). evaluation p false (callRefusal c num den)) zero-first
           ∙ rw zero-ohms (sym (evaluated-refused c num den e))
 
   pub load-held : Held (evaluated c num den .load)

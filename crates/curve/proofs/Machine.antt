@@ -2,8 +2,9 @@
 -- Assumes nothing.
 use mathlib.Core.Path.{_≡_, sym, ap, _∙_}
 use mathlib.Core.Bool.{Bool, true, false, _&&_}
-use Prim.Native.Nat.{_<_, _^_}
-use lib.IntN.{ℤ}
+use Prim.Native.Nat.{ℕ, _<_, _^_}
+use native.Mathlib.Omega.{arith}
+use lib.IntN.{ℤ, pos}
 use lib.Signed.{mag}
 use mir.Syntax.{w32}
 use mir.Val.{SFits, toZ, ofZ, hbits}
@@ -12,6 +13,10 @@ use mir.ValLaws.{toZ-ofZ}
 -- an i32 is what its bits say
 pub back : {z : ℤ} → SFits w32 z → toZ w32 (ofZ w32 z) ≡ z
 back {z} f = toZ-ofZ w32 z f
+
+-- a small natural number is itself as an i32
+pub signed : (n : ℕ) → n < 2147483648 → toZ w32 n ≡ pos n
+signed n small = back (record { sfits = omega arith })
 
 -- the same of a field, as a struct's rule tells its range
 pub told : (z : ℤ) → mag z < 2 ^ hbits w32 → toZ w32 (ofZ w32 z) ≡ z

@@ -9,16 +9,18 @@ use native.Mathlib.Omega.{arith}
 use lib.Dec.{leb}
 use Rattle.bernstein.specs.DeCasteljau as DeCasteljau
 use Rattle.bernstein.proofs.Table.{table-agree}
+use Rattle.bernstein.proofs.EveryMap.{all-agree, every-agree}
 use Rattle.curve.specs.declared.Rect.{Rect}
 use Rattle.curve.specs.declared.Curve.{Curve}
 use Rattle.curve.specs.declared.Refusal.{Refusal}
 use Rattle.curve.specs.Limits.{maxDegree}
-use Rattle.curve.specs.Rect.{sidesInRange, sidesOrdered, affineRect, hull}
-use Rattle.curve.specs.Curve.{point, SameCurve, curveOf, mapAt, loadOf, leftOf, rightOf, elevatedPoint, elevatedOf, hullTo, boundsOf}
+use Rattle.curve.specs.Rect.{sidesInRange, sidesOrdered, affineRect, exactRect, hull}
+use Rattle.curve.specs.Curve.{point, SameCurve, curveOf, mapAt, loadOf, leftOf, rightOf, tableExact, elevatedPoint, elevatedOf, elevatedExact, elevationExact, hullTo, boundsOf}
 use Rattle.curve.specs.Refusals.{refusal, _orElse_, unless, firstFailing, rangeRefusal, orderRefusal, curveRefusal, parameterRefusal, highestRefusal}
 use Rattle.curve.specs.Calls.{callRefusal, elevationRefusal}
 use Rattle.curve.specs.Promises.{PastUnread}
 use Rattle.curve.proofs.EndPoints.{affine-rect-first}
+use Rattle.curve.proofs.ElevatedPoints.{exact-last}
 use Rattle.curve.proofs.EqualAnswers.{curveOf-equal, evaluated-equal, subdivided-equal, elevated-equal, bounded-equal}
 
 -- points that agree as far as n
@@ -78,6 +80,15 @@ module _ (n : ℕ) {P Q : ℕ → Rect} (agree : Agree n P Q) where
   elevated-agree : curveOf (n + 1) (elevatedPoint n P) ≡ curveOf (n + 1) (elevatedPoint n Q)
   elevated-agree = curveOf-equal (n + 1) (elevatedPoint n P) (elevatedPoint n Q) elevated-point-agree
 
+  -- and so it does not darken a flag
+  elevated-exact-agree : (k : ℕ) → k < n + 2 → elevatedExact n P k ≡ elevatedExact n Q k
+  unfolding elevatedExact
+  elevated-exact-agree k h = go (eq-or-lt-of-le {n = k} {m = n + 1} (omega arith))
+    where
+      go : (k ≡ n + 1) ⊎ (k < n + 1) → elevatedExact n P k ≡ elevatedExact n Q k
+      go (inl e) = ap (elevatedExact n P) e ∙ exact-last n P ∙ sym (exact-last n Q) ∙ sym (ap (elevatedExact n Q) e)
+      go (inr l) = ap₂ (exactRect k (n + 1 - k) (n + 1)) (agree (k - 1) (omega arith)) (agree k (omega arith))
+
   load-agree : (map : Rect → Rect → Rect) → DeCasteljau.value map P n ≡ DeCasteljau.value map Q n
   unfolding DeCasteljau.value
   load-agree map = table-agree map n agree n 0 (omega arith)
@@ -101,16 +112,21 @@ module _ (c e : Curve) (same : SameCurve c e) where
   call-refusals num den = ap (λ (r : Refusal). r orElse parameterRefusal num den) refusals
 
 pub past-unread : PastUnread
-unfolding elevationRefusal loadOf leftOf rightOf elevatedOf boundsOf
+unfolding elevationRefusal loadOf leftOf rightOf tableExact elevatedOf elevationExact boundsOf
 past-unread c e same =
     let n = c .degree in
-    let agree = same .controls in (
+    let agree = same .controls in
+    let flags : (num den : ℕ) → tableExact c num den ≡ tableExact e num den = λ num den.
+    unread c e same (λ m P. DeCasteljau.everyMap (mapAt num den) P (exactRect (den - num) num den) m) (every-agree (mapAt num den) (exactRect (den - num) num den) n agree) in (
       λ num den. evaluated-equal c e num den num den (call-refusals c e same num den)
-          (unread c e same (λ m P. DeCasteljau.value (mapAt num den) P m) (load-agree n agree (mapAt num den))),
+          (unread c e same (λ m P. DeCasteljau.value (mapAt num den) P m) (load-agree n agree (mapAt num den)))
+          (flags num den),
       λ num den. subdivided-equal c e num den num den (call-refusals c e same num den)
           (unread c e same (λ m P. curveOf m (DeCasteljau.left (mapAt num den) P)) (left-agree n agree (mapAt num den)))
-          (unread c e same (λ m P. curveOf m (DeCasteljau.right (mapAt num den) P m)) (right-agree n agree (mapAt num den))),
+          (unread c e same (λ m P. curveOf m (DeCasteljau.right (mapAt num den) P m)) (right-agree n agree (mapAt num den)))
+          (flags num den),
       elevated-equal c e (ap₂ (λ (r : Refusal) (m : ℕ). r orElse highestRefusal m) (refusals c e same) (same .degrees))
-          (unread c e same (λ m P. curveOf (m + 1) (elevatedPoint m P)) (elevated-agree n agree)),
+          (unread c e same (λ m P. curveOf (m + 1) (elevatedPoint m P)) (elevated-agree n agree))
+          (unread c e same (λ m P. DeCasteljau.allBelow (m + 2) (elevatedExact m P)) (all-agree (n + 2) (elevatedExact n (point c)) (elevatedExact n (point e)) (elevated-exact-agree n agree))),
       bounded-equal c e (refusals c e same) (unread c e same (λ m P. hullTo P m) (hull-agree n agree)),
     )

@@ -1,6 +1,6 @@
 -- The stages in place: after j of them the record's places hold de Casteljau's table as far as stage j, and after all of them the right piece.
 -- Assumes nothing.
-use mathlib.Core.Path.{_≡_, sym, ap, ap₂, _∙_, subst}
+use mathlib.Core.Path.{_≡_, sym, ap, ap₂, _∙_}
 use mathlib.Core.List.{List}
 use mathlib.Core.Bool.{Bool, cond}
 use Prim.Native.Nat.{ℕ, suc, _+_, _-_, _≤_, _<_, min}
@@ -129,6 +129,10 @@ module _ (map : Rect → Rect → Rect) (P : ℕ → Rect) (n : ℕ) where
   unfolding DeCasteljau.right
   stage-end j h = points-agree n (entryAfter j) (DeCasteljau.right map P n) (λ k within. entry-done j k (omega arith))
 
+  -- a place that the next stage maps holds the table's entry
+  pub stage-entry : (j k : ℕ) → j + k ≤ n → n < places → getD (pointsOf n (entryAfter j)) k zeroRect ≡ DeCasteljau.table map P j k
+  stage-entry j k h room = points-at n (entryAfter j) k (omega arith) (omega arith) ∙ entry-running j k h
+
   -- the first place holds the left piece's next point
   pub stage-first : (j : ℕ) → j ≤ n → getD (pointsOf n (entryAfter j)) 0 zeroRect ≡ DeCasteljau.left map P j
   unfolding DeCasteljau.left
@@ -155,11 +159,9 @@ affine-held s t d p q f hp hq = record { at = λ x. record { at = λ r. go x r }
     go reactance up = affine-side-held up s t d _ _ f (hp .at reactance .at up) (hq .at reactance .at up)
 
 -- every entry that a stage maps is in range
-pub stage-held : (s t d : ℕ) (P : ℕ → Rect) (n : ℕ) → Factors s t d → n < places → ((k : ℕ) → k ≤ n → Held (P k)) →
-    (j k : ℕ) → j + k ≤ n → Held (getD (pointsOf n (entryAfter (affineRect s t d) P n j)) k zeroRect)
-stage-held s t d P n f room held j k h =
-    subst Held (sym (points-at n (entryAfter (affineRect s t d) P n j) k (omega arith) (omega arith) ∙ entry-running (affineRect s t d) P n j k h))
-    (table-property Held (λ a b. affine-held s t d a b f) n held j k h)
+pub table-held : (s t d : ℕ) (P : ℕ → Rect) (n : ℕ) → Factors s t d → ((k : ℕ) → k ≤ n → Held (P k)) →
+    (j k : ℕ) → j + k ≤ n → Held (DeCasteljau.table (affineRect s t d) P j k)
+table-held s t d P n f held = table-property Held (λ a b. affine-held s t d a b f) n held
 
 -- the pieces look at the control points as far as the degree
 pub pieces-agree : (map : Rect → Rect → Rect) (P Q : ℕ → Rect) (n : ℕ) → ((k : ℕ) → k ≤ n → P k ≡ Q k) →

@@ -8,10 +8,10 @@ use Rattle.curve.specs.declared.Curve.{Curve}
 use Rattle.curve.specs.declared.Elevation.{Elevation}
 use Rattle.curve.specs.declared.Subdivision.{Subdivision}
 use Rattle.curve.specs.Rect.{zeroRect}
-use Rattle.curve.specs.Curve.{point, mapAt, leftOf, rightOf, elevatedPoint, elevatedOf, zeroCurve}
+use Rattle.curve.specs.Curve.{point, mapAt, leftOf, rightOf, tableExact, elevatedPoint, elevatedOf, elevationExact}
 use Rattle.curve.specs.Calls.{callRefusal, elevationRefusal, subdivided, elevated}
 use Rattle.curve.specs.Promises.{PastZero, ZeroPast}
-use Rattle.curve.proofs.Answers.{subdivision, elevation}
+use Rattle.curve.proofs.Answers.{subdivision, noSubdivision, elevation, noElevation}
 use Rattle.curve.proofs.Points.{point-past}
 
 pieces-past : (c : Curve) (num den : ℕ) → PastZero (subdivided c num den .left) × PastZero (subdivided c num den .right)
@@ -19,7 +19,7 @@ unfolding subdivided leftOf rightOf
 pieces-past c num den = go (eqb (callRefusal c num den .number) 0)
   where
     answer : Bool → Subdivision
-    answer b = cond b (subdivision (leftOf c num den) (rightOf c num den) (callRefusal c num den)) (subdivision zeroCurve zeroCurve (callRefusal c num den))
+    answer b = cond b (subdivision (leftOf c num den) (rightOf c num den) (tableExact c num den) (callRefusal c num den)) (noSubdivision (callRefusal c num den))
 
     go : (b : Bool) → PastZero (answer b .left) × PastZero (answer b .right)
     go true = (point-past (c .degree) (left (mapAt num den) (point c)), point-past (c .degree) (right (mapAt num den) (point c) (c .degree)))
@@ -30,7 +30,7 @@ unfolding elevated elevatedOf
 elevated-past c = go (eqb (elevationRefusal c .number) 0)
   where
     answer : Bool → Elevation
-    answer b = cond b (elevation (elevatedOf c) (elevationRefusal c)) (elevation zeroCurve (elevationRefusal c))
+    answer b = cond b (elevation (elevatedOf c) (elevationExact c) (elevationRefusal c)) (noElevation (elevationRefusal c))
 
     go : (b : Bool) → PastZero (answer b .curve)
     go true = point-past (c .degree + 1) (elevatedPoint (c .degree) (point c))

@@ -1,7 +1,7 @@
--- The answer of each public call, for every input: a refusal with zeros, or the result.
+-- The answer of each public call, for every input: a refusal with zeros and a dark flag, or the result.
 -- Assumes nothing.
 use Prim.Native.Nat.{ℕ}
-use mathlib.Core.Bool.{cond}
+use mathlib.Core.Bool.{false, cond}
 use lib.Dec.{eqb}
 use Rattle.curve.specs.declared.Curve.{Curve}
 use Rattle.curve.specs.declared.Refusal.{Refusal}
@@ -10,7 +10,7 @@ use Rattle.curve.specs.declared.Subdivision.{Subdivision}
 use Rattle.curve.specs.declared.Elevation.{Elevation}
 use Rattle.curve.specs.declared.Enclosure.{Enclosure}
 use Rattle.curve.specs.Rect.{zeroRect}
-use Rattle.curve.specs.Curve.{zeroCurve, loadOf, leftOf, rightOf, elevatedOf, boundsOf}
+use Rattle.curve.specs.Curve.{zeroCurve, loadOf, leftOf, rightOf, tableExact, elevatedOf, elevationExact, boundsOf}
 use Rattle.curve.specs.Ohms.{ohmsOf, zeroOhms}
 use Rattle.curve.specs.Refusals.{_orElse_, curveRefusal, parameterRefusal, highestRefusal}
 
@@ -23,16 +23,16 @@ unfoldable pub evaluated : Curve → ℕ → ℕ → Evaluation
 evaluated c num den =
     let r = callRefusal c num den in
     cond (eqb (r .number) 0)
-    (record { refusal = r; load = loadOf c num den; ohms = ohmsOf (loadOf c num den) })
-    (record { refusal = r; load = zeroRect; ohms = zeroOhms })
+    (record { refusal = r; load = loadOf c num den; ohms = ohmsOf (loadOf c num den); exact = tableExact c num den })
+    (record { refusal = r; load = zeroRect; ohms = zeroOhms; exact = false })
 
 -- subdivision (its cut)
 unfoldable pub subdivided : Curve → ℕ → ℕ → Subdivision
 subdivided c num den =
     let r = callRefusal c num den in
     cond (eqb (r .number) 0)
-    (record { refusal = r; left = leftOf c num den; right = rightOf c num den })
-    (record { refusal = r; left = zeroCurve; right = zeroCurve })
+    (record { refusal = r; left = leftOf c num den; right = rightOf c num den; exact = tableExact c num den })
+    (record { refusal = r; left = zeroCurve; right = zeroCurve; exact = false })
 
 -- degree elevation (its raising): refusals 1 to 3, and 6
 unfoldable pub elevationRefusal : Curve → Refusal
@@ -41,7 +41,9 @@ elevationRefusal c = curveRefusal c orElse highestRefusal (c .degree)
 unfoldable pub elevated : Curve → Elevation
 elevated c =
     let r = elevationRefusal c in
-    cond (eqb (r .number) 0) (record { refusal = r; curve = elevatedOf c }) (record { refusal = r; curve = zeroCurve })
+    cond (eqb (r .number) 0)
+    (record { refusal = r; curve = elevatedOf c; exact = elevationExact c })
+    (record { refusal = r; curve = zeroCurve; exact = false })
 
 -- the bounds (its span)
 unfoldable pub bounded : Curve → Enclosure

@@ -1,9 +1,9 @@
--- Curves and what is computed from an accepted one: the load, both pieces, the elevated curve and the bounds.
+-- Curves and what is computed from an accepted one: the load, both pieces, the elevated curve, their exact flags, and the bounds.
 -- Control points are read by number, and those past the degree play no part.
 -- Assumes nothing.
 use mathlib.Core.Path.{_≡_}
 use mathlib.Core.List.{List, [], _∷_}
-use mathlib.Core.Bool.{cond}
+use mathlib.Core.Bool.{Bool, cond}
 use Prim.Native.Nat.{ℕ, zero, suc, _+_, _-_, _≤_}
 use lib.Dec.{leb}
 use lib.ListN.{getD}
@@ -11,7 +11,7 @@ use Rattle.bernstein.specs.DeCasteljau as DeCasteljau
 use Rattle.curve.specs.declared.Rect.{Rect}
 use Rattle.curve.specs.declared.Curve.{Curve}
 use Rattle.curve.specs.Limits.{places}
-use Rattle.curve.specs.Rect.{zeroRect, affineRect, hull}
+use Rattle.curve.specs.Rect.{zeroRect, affineRect, exactRect, hull}
 
 -- control point k
 abbrev pub point : Curve → ℕ → Rect
@@ -52,12 +52,24 @@ leftOf c num den = curveOf (c .degree) (DeCasteljau.left (mapAt num den) (point 
 unfoldable pub rightOf : Curve → ℕ → ℕ → Curve
 rightOf c num den = curveOf (c .degree) (DeCasteljau.right (mapAt num den) (point c) (c .degree))
 
+-- the exact flag of the load and of the pieces (document 02: the lamp): true, lit, if no map of the table left a remainder.
+-- False, dark, says that some map was rounded, and not that a side is wrong.
+unfoldable pub tableExact : Curve → ℕ → ℕ → Bool
+tableExact c num den = DeCasteljau.everyMap (mapAt num den) (point c) (exactRect (den - num) num den) (c .degree)
+
 -- control point k of the curve of degree n + 1: (k × P(k−1) + (n + 1 − k) × P(k)) / (n + 1); at k = 0 and k = n + 1 the absent point has factor 0
 unfoldable pub elevatedPoint : ℕ → (ℕ → Rect) → ℕ → Rect
 elevatedPoint n P k = affineRect k (n + 1 - k) (n + 1) (P (k - 1)) (P k)
 
 unfoldable pub elevatedOf : Curve → Curve
 elevatedOf c = curveOf (c .degree + 1) (elevatedPoint (c .degree) (point c))
+
+-- its exact flag: true if no map left a remainder, for k from 0 to n + 1
+unfoldable pub elevatedExact : ℕ → (ℕ → Rect) → ℕ → Bool
+elevatedExact n P k = exactRect k (n + 1 - k) (n + 1) (P (k - 1)) (P k)
+
+unfoldable pub elevationExact : Curve → Bool
+elevationExact c = DeCasteljau.allBelow (c .degree + 2) (elevatedExact (c .degree) (point c))
 
 -- the least rectangle that holds P 0 to P n
 unfoldable pub hullTo : (ℕ → Rect) → ℕ → Rect

@@ -3,12 +3,13 @@
 use mathlib.Core.Path.{_≡_}
 use mathlib.Core.Bool.{Bool, true, false}
 use Prim.Native.Nat.{ℕ, _+_, _*_, _/_, _≤_, _<_}
-use lib.IntN.{ℤ, pos, negℤ, _+ℤ_, _*ℤ_}
+use lib.IntN.{ℤ, pos, negℤ}
 use lib.Signed.{_≤ℤ_}
 use Rattle.rational.specs.Rounding.{Rounding, down, up}
 use Rattle.curve.specs.declared.Interval.{Interval}
 use Rattle.curve.specs.declared.Rect.{Rect}
 use Rattle.curve.specs.declared.Curve.{Curve}
+use Rattle.curve.specs.declared.affine.Weights.{Weights}
 use Rattle.curve.specs.Limits.{maxDegree, maxSide, maxDen}
 use Rattle.curve.specs.Rect.{Coordinate, end, along}
 use Rattle.curve.specs.Curve.{point}
@@ -32,26 +33,32 @@ pub record Factors (s t den : ℕ) : Type 0 where
   pub positive : 0 < den
   pub small : den ≤ maxDen
 
--- two weighted sides, counted from the lower one: `by` is the distance to the other, and `factor` the other's factor
-pub record Rising (a b : ℤ) (s t : ℕ) (from : ℤ) (by factor : ℕ) : Type 0 where
-  pub sum : pos s *ℤ a +ℤ pos t *ℤ b ≡ pos (factor * by) +ℤ from *ℤ pos (s + t)
-  pub near : by ≤ 33554432
-  pub light : factor ≤ s + t
-  pub start : Side from
-
--- the scale of a divisor's inverse, 2 to the power 38
-abbrev pub scale : ℕ
-scale = 274877906944
-
--- a divisor's inverse, in parts of the scale
-abbrev pub inverseOf : ℕ → ℕ
-inverseOf den = scale / den
-
--- what a division by an inverse asks: a divisor in range, a quotient of at most twice the largest side
-pub record Dividing (n den : ℕ) : Type 0 where
+-- a factor of a divisor
+pub record Factor (t den : ℕ) : Type 0 where
   pub positive : 0 < den
   pub small : den ≤ maxDen
-  pub near : n < 33554433 * den
+  pub most : t ≤ den
+
+-- the scale of a factor's part of its divisor, 2 to the power 37
+abbrev pub scale : ℕ
+scale = 137438953472
+
+-- t / den in parts of the scale, or at most 1,023 parts more
+pub record Part (t den part : ℕ) : Type 0 where
+  pub least : t * scale ≤ part * den
+  pub most : part * den ≤ t * scale + 1023 * den
+
+-- how often a divisor goes into the least multiple of it that is at least twice the largest side
+abbrev pub turnsOf : ℕ → ℕ
+turnsOf den = (33554431 + den) / den
+
+-- what the maps with one factor of a divisor share
+pub record Weighed (w : Weights) : Type 0 where
+  pub factor : Factor (w .t) (w .den)
+  pub part : Part (w .t) (w .den) (w .part)
+  pub level : w .lift * w .t ≡ w .back * w .den
+  pub high : 33554432 ≤ w .lift
+  pub low : w .lift ≤ 33554431 + maxDen
 
 abbrev pub roundingOf : Bool → Rounding
 roundingOf true = up

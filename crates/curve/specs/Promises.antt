@@ -25,6 +25,22 @@ EndPoints =
     (c : Curve) (den : ℕ) → Accepted c → AcceptedAt den den →
     (evaluated c 0 den .load ≡ point c 0) × (evaluated c den den .load ≡ point c (c .degree))
 
+-- evaluation and subdivision at one parameter have equal flags
+abbrev pub SameFlag : Type 0
+SameFlag = (c : Curve) (num den : ℕ) → evaluated c num den .exact ≡ subdivided c num den .exact
+
+-- at 0/den and at den/den they are lit
+abbrev pub LitEnds : Type 0
+LitEnds =
+    (c : Curve) (den : ℕ) → Accepted c → AcceptedAt den den →
+    (evaluated c 0 den .exact ≡ true) × (evaluated c den den .exact ≡ true)
+
+-- only an accepted call is lit: a refused one's flag is dark
+pub record LitAccepted : Type 0 where
+  pub evaluating : (c : Curve) (num den : ℕ) → evaluated c num den .exact ≡ true → Accepted c × AcceptedAt num den
+  pub subdividing : (c : Curve) (num den : ℕ) → subdivided c num den .exact ≡ true → Accepted c × AcceptedAt num den
+  pub elevating : (c : Curve) → elevated c .exact ≡ true → Accepted c × (c .degree < maxDegree)
+
 -- equal fractions, both accepted, give equal answers
 abbrev pub EqualFractions : Type 0
 EqualFractions =

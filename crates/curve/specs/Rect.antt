@@ -6,7 +6,7 @@ use lib.IntN.{ℤ, pos, negℤ}
 use lib.Signed.{leZ, _≤ℤ_}
 use mathlib.Core.Bool.{Bool, _&&_, cond}
 use Rattle.rational.specs.Rounding.{Rounding, down, up}
-use Rattle.bernstein.specs.Affine.{affine}
+use Rattle.bernstein.specs.Affine.{affine, affineExact}
 use Rattle.curve.specs.declared.Interval.{Interval}
 use Rattle.curve.specs.declared.Rect.{Rect}
 use Rattle.curve.specs.Limits.{maxSide}
@@ -72,6 +72,13 @@ affineRect s t d p q =
       resistance = affineInterval s t d (p .resistance) (q .resistance);
       reactance = affineInterval s t d (p .reactance) (q .reactance);
     }
+
+-- whether that map leaves no remainder, on the low side and on the high one
+unfoldable pub exactInterval : ℕ → ℕ → ℕ → Interval → Interval → Bool
+exactInterval s t d i j = affineExact s t d (i .low) (j .low) && affineExact s t d (i .high) (j .high)
+
+unfoldable pub exactRect : ℕ → ℕ → ℕ → Rect → Rect → Bool
+exactRect s t d p q = exactInterval s t d (p .resistance) (q .resistance) && exactInterval s t d (p .reactance) (q .reactance)
 
 -- the least interval and the least rectangle that hold two
 unfoldable pub least : ℤ → ℤ → ℤ

@@ -49,6 +49,9 @@ pub const MAX_SIDE: i32 = 16777216;
 // The largest denominator of a parameter.
 pub const MAX_DEN: u32 = 65536;
 
+// The exact flag of a refused call.
+const DARK: bool = false;
+
 // The values from low to high, in steps, both ends included.
 pub struct Interval {
     pub low: i32,
@@ -81,11 +84,12 @@ pub struct Ohms {
     pub xhigh: f32,
 }
 
-// The answer of evaluate.
+// The answer of evaluate. The flag `exact` of each answer tells that every map left no remainder; it is dark, false, where the call is refused.
 pub struct Evaluation {
     pub refusal: Refusal,
     pub load: Rect,
     pub ohms: Ohms,
+    pub exact: bool,
 }
 
 // The answer of subdivide.
@@ -93,12 +97,14 @@ pub struct Subdivision {
     pub refusal: Refusal,
     pub left: Curve,
     pub right: Curve,
+    pub exact: bool,
 }
 
 // The answer of elevate.
 pub struct Elevation {
     pub refusal: Refusal,
     pub curve: Curve,
+    pub exact: bool,
 }
 
 // The answer of bounds.
@@ -118,6 +124,7 @@ pub fn subdivide(c: Curve, num: u32, den: u32) -> Subdivision
             refusal,
             left: none,
             right: none,
+            exact: DARK,
         };
     }
     let table = table_of(c, num, den);
@@ -133,6 +140,7 @@ pub fn subdivide(c: Curve, num: u32, den: u32) -> Subdivision
             degree: c.degree,
             points: right,
         },
+        exact: table.exact,
     }
 }
 
@@ -148,6 +156,7 @@ pub fn evaluate(c: Curve, num: u32, den: u32) -> Evaluation
         refusal,
         load,
         ohms: ohms_of(load),
+        exact: pieces.exact,
     }
 }
 
@@ -160,13 +169,16 @@ pub fn elevate(c: Curve) -> Elevation
         return Elevation {
             refusal,
             curve: zero_curve(),
+            exact: DARK,
         };
     }
-    let points = elevated_points(c);
+    let raised = elevated_points(c);
+    let points = raised.points;
     let degree = c.degree + 1;
     Elevation {
         refusal,
         curve: Curve { degree, points },
+        exact: raised.exact,
     }
 }
 

@@ -35,15 +35,15 @@ elevated-points-requires : tie.Need-elevated-points-requires
 elevated-points-requires c κs = let ok = accepted c in (accepted-ready (c .before .before .before .args .c) (ok .0), ok .1)
 
 add-degree : tie.Need-add-degree
-add-degree c = let ok = accepted (c .before .before) .1 in omega arith
+add-degree c = let ok = accepted (c .before .before .before) .1 in omega arith
 
 returns-2 : tie.Need-returns-2
 unfolding elevatedOf
 returns-2 c =
-    let t = c .before in
+    let t = c .before .before in
     let a = t .before .before .before .before .args .c in
     let ok = accepted (t .before) in
-    rw (t .elevated-points .ensures, t .before .before .before .elevation-refusal .ensures ∙ accepted-elevation a (ok .0) (ok .1)) (sym (elevated-accepted a (ok .0) (ok .1)))
+    rw (t .elevated-points .ensures .0, t .elevated-points .ensures .1, t .before .before .before .elevation-refusal .ensures ∙ accepted-elevation a (ok .0) (ok .1)) (sym (elevated-accepted a (ok .0) (ok .1)))
 
 pub elevate-spec : {M : Type 1} → statement M
 elevate-spec =

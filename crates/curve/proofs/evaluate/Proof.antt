@@ -27,7 +27,7 @@ returns c =
     let s = c .before .before .before .before in
     let a = s .before .args in
     rw (c .ohms-of .ensures)
-    (ap (λ (x : Subdivision). evaluation (point (x .right) 0) (x .refusal)) (s .subdivide .ensures) ∙ evaluated-first (a .c) (a .num) (a .den))
+    (ap (λ (x : Subdivision). evaluation (point (x .right) 0) (x .exact) (x .refusal)) (s .subdivide .ensures) ∙ evaluated-first (a .c) (a .num) (a .den))
 
 pub evaluate-spec : {M : Type 1} → statement M
 evaluate-spec = tie.close (tie.spec subdivide-requires element-copy-out-load ohms-of-requires returns)

@@ -40,7 +40,7 @@ returns-2 c =
     let t = c .before .before in
     let a = t .before .before .before .before .args in
     let ok = accepted (t .before) in
-    rw (t .table-of .ensures .0, t .table-of .ensures .1, t .before .before .before .call-refusal .ensures ∙ accepted-call (a .c) (a .num) (a .den) (ok .0) (ok .1))
+    rw (t .table-of .ensures .0, t .table-of .ensures .1, t .table-of .ensures .2, t .before .before .before .call-refusal .ensures ∙ accepted-call (a .c) (a .num) (a .den) (ok .0) (ok .1))
     (sym (subdivided-accepted (a .c) (a .num) (a .den) (ok .0) (ok .1)))
 
 pub subdivide-spec : {M : Type 1} → statement M

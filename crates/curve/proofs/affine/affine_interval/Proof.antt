@@ -1,9 +1,10 @@
 -- `affine_interval` meets its contract, by its two ends.
 -- Assumes nothing.
-use mathlib.Core.Path.{ap₂}
+use mathlib.Core.Path.{ap₂, _∙_}
+use mathlib.Core.Bool.{_&&_}
 use Rattle.rational.specs.Rounding.{down, up}
-use Rattle.bernstein.specs.Affine.{affine}
-use Rattle.curve.specs.Rect.{affineInterval}
+use Rattle.bernstein.specs.Affine.{affine, affineExact}
+use Rattle.curve.specs.Rect.{affineInterval, exactInterval}
 use Rattle.curve.proofs.Machine.{told}
 use Rattle.curve.proofs.Sides.{side-back, side-passed}
 use Rattle.curve.proofs.affine.affine_interval.Statement.{statement}
@@ -20,16 +21,31 @@ affine-side-requires-2 c κs =
     (side-passed (p .0 .at up), (side-passed (p .1 .0 .at up), p .1 .1))
 
 returns : tie.Need-returns
-unfolding affineInterval
-returns c =
-    let start = c .before .before .before .before .before .before in
-    let a = start .args in
+unfolding affineInterval exactInterval
+returns c s total =
+    let second = c .before .before .before .before in
+    let first = second .before .before .before in
+    let start = first .before .before .before in
     let p = start .pre in
-    let low = c .before .before .before .affine-side in
-    let high = c .affine-side2 in
-    let lows = ap₂ (affine down (a .s) (a .t) (a .den)) (side-back (p .0 .at down)) (side-back (p .1 .0 .at down)) in
-    let highs = ap₂ (affine up (a .s) (a .t) (a .den)) (side-back (p .0 .at up)) (side-back (p .1 .0 .at up)) in
-    rw (told (low .result) (low .ok), told (high .result) (high .ok), low .ensures, high .ensures, lows, highs)
+    let w = start .args .w in
+    let low = first .affine-side .ensures s total in
+    let high = second .affine-side2 .ensures s total in
+    let il = side-back (p .0 .at down) in
+    let ih = side-back (p .0 .at up) in
+    let jl = side-back (p .1 .0 .at down) in
+    let jh = side-back (p .1 .0 .at up) in (
+      rw (
+        told (first .affine-side .result .side) (c .before .before .before .struct-told5 .given .0 .1),
+        told (second .affine-side2 .result .side) (c .before .before .struct-told6 .given .0 .1),
+        low .0,
+        high .0,
+        il,
+        ih,
+        jl,
+        jh,
+      ),
+      ap₂ _&&_ (low .1 ∙ ap₂ (affineExact s (w .t) (w .den)) il jl) (high .1 ∙ ap₂ (affineExact s (w .t) (w .den)) ih jh),
+    )
 
 pub affine-interval-spec : {M : Type 1} → statement M
 affine-interval-spec = tie.close (tie.spec affine-side-requires affine-side-requires-2 returns)

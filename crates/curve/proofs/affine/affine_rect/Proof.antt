@@ -1,6 +1,8 @@
 -- `affine_rect` meets its contract, by the two coordinates.
 -- Assumes nothing.
-use Rattle.curve.specs.Rect.{affineRect, resistance, reactance}
+use mathlib.Core.Path.{ap₂}
+use mathlib.Core.Bool.{_&&_}
+use Rattle.curve.specs.Rect.{affineRect, exactRect, resistance, reactance}
 use Rattle.curve.proofs.affine.affine_rect.Statement.{statement}
 use Rattle.curve.proofs.affine.affine_rect.Tie as tie
 
@@ -15,8 +17,11 @@ affine-interval-requires-2 c κs =
     (p .0 .at reactance, (p .1 .0 .at reactance, p .1 .1))
 
 returns : tie.Need-returns
-unfolding affineRect
-returns c = rw (c .before .affine-interval .ensures, c .affine-interval2 .ensures)
+unfolding affineRect exactRect
+returns c s total =
+    let r = c .before .before .before .before .before .affine-interval .ensures s total in
+    let x = c .before .before .before .before .affine-interval2 .ensures s total in
+    (rw (r .0, x .0), ap₂ _&&_ (r .1) (x .1))
 
 pub affine-rect-spec : {M : Type 1} → statement M
 affine-rect-spec = tie.close (tie.spec affine-interval-requires affine-interval-requires-2 returns)

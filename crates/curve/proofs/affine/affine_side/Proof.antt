@@ -1,122 +1,128 @@
--- `affine_side` meets its contract: counted from the lower side, the quotient reaches the map.
+-- `affine_side` meets its contract: from the lifted start, the quotient of the distance reaches the map.
 -- Assumes nothing.
-use mathlib.Core.Path.{_≡_, sym, ap, _∙_, subst₂}
-use mathlib.Core.Bool.{Bool}
-use mathlib.Core.Logic.{⊎-elim}
-use Prim.Native.Nat.{ℕ, _+_, _*_, _/_, _<_}
+use mathlib.Core.Path.{_≡_, ap, _∙_}
+use Prim.Native.Nat.{ℕ, _+_, _*_, _-_, _≤_, _<_}
 use native.Mathlib.Omega.{arith}
-use borrow.Author.Needs.{needs}
-use lib.IntN.{ℤ, pos, _+ℤ_}
+use lib.IntN.{ℤ, pos, _+ℤ_, _-ℤ_}
 use mir.Syntax.{w32}
-use mir.Val.{SFits}
+use mir.Val.{toZ, ofZ}
+use Rattle.rational.specs.Rounding.{quotient}
 use Rattle.bernstein.specs.Affine.{affine}
-use Rattle.curve.specs.Inner.{Side, Rising, Dividing, roundingOf}
-use Rattle.curve.proofs.Machine.{back}
+use Rattle.curve.specs.Inner.{Side, roundingOf}
+use Rattle.curve.proofs.Machine.{back, signed}
 use Rattle.curve.proofs.Sides.{side-back, side-fits}
 use Rattle.curve.proofs.Stages.{affine-side-held}
-use Rattle.curve.proofs.Rises.{liftOf, sum-small, steps-small, risen}
+use Rattle.curve.proofs.Weighing.{Distance, distance, difference-fits, back-most, start-fits, steps-small, reached, left-none}
 use Rattle.curve.proofs.affine.affine_side.Statement.{statement}
 use Rattle.curve.proofs.affine.affine_side.Tie as tie
 
--- the branch leaves the lift, which is below the divisor
-lifted : (c : tie.Joined1) → c .if1 .lift ≡ liftOf (c .before .before .args .up) (c .before .before .args .den)
-lifted c =
-    let den = c .before .before .args .den in
-    ⊎-elim (λ w. w .1 ∙ ap (λ (u : Bool). liftOf u den) (sym (w .0 .taken))) (λ w. w .1 ∙ ap (λ (u : Bool). liftOf u den) (sym (w .0 .left))) (c .if1 .came)
+-- the distance from a to b, as the machine has it
+known : (c : tie.Start) → Distance (c .args .a) (c .args .b) (c .args .w .lift)
+known c = distance (c .pre .0) (c .pre .1 .0) (c .args .w .lift) (c .pre .1 .1 .high)
 
-small : (c : tie.Joined1) → c .if1 .lift < c .before .before .args .den
+small : (c : tie.Start) → (c .args .w .lift ≤ 33619967) × (c .args .w .back ≤ 33619967) × (known c .by ≤ 67174399)
 small c =
-    let p = c .before .before .pre .1 .1 .0 .positive in
-    ⊎-elim (λ w. let e = w .1 in omega arith) (λ w. let e = w .1 in omega arith) (c .if1 .came)
+    let low = c .pre .1 .1 .low in
+    let most = back-most (c .args .w) (c .pre .1 .1) in
+    let far = known c .far in
+    (omega arith, omega arith, omega arith)
 
--- what was found of the two sides passed
-rising : (c : tie.After-rise-of) →
-    Rising (c .before .args .a) (c .before .args .b) (c .before .args .s) (c .before .args .t) (c .rise-of .result .from) (c .rise-of .result .by) (c .rise-of .result .factor)
-rising c =
-    let p = c .before .pre in
-    let a = c .before .args in
-    let r = c .rise-of .result in
-    subst₂ (λ (x y : ℤ). Rising x y (a .s) (a .t) (r .from) (r .by) (r .factor)) (side-back (p .0)) (side-back (p .1 .0)) (c .rise-of .ensures)
+lifted : (c : tie.Start) →
+    toZ w32 (ofZ w32 (toZ w32 (ofZ w32 (c .args .b)) -ℤ toZ w32 (ofZ w32 (c .args .a)))) +ℤ toZ w32 (c .args .w .lift) ≡ pos (known c .by)
+lifted c =
+    let l = small c .0 in
+    rw (side-back (c .pre .0), side-back (c .pre .1 .0), back (difference-fits (c .pre .0) (c .pre .1 .0)), signed (c .args .w .lift) (omega arith)) (known c .is)
 
--- the product with the lift is small against the divisor
-dividing : (c : tie.Joined1) → Dividing (c .before .rise-of .result .factor * c .before .rise-of .result .by + c .if1 .lift) (c .before .before .args .den)
-dividing c =
-    let f = c .before .before .pre .1 .1 .0 in
-    record {
-      positive = f .positive;
-      small = f .small;
-      near = sum-small (c .before .before .args .den) f (rising (c .before)) (c .if1 .lift) (small c);
-    }
+-- the same, cast
+cast : (c : tie.Start) → toZ w32 (known c .by) ≡ pos (known c .by)
+cast c = let b = small c .2 in signed (known c .by) (omega arith)
 
-rise-of-requires : tie.Need-rise-of-requires
-rise-of-requires c κs = search needs
+sub-distance : tie.Need-sub-distance
+sub-distance c = rw (side-back (c .pre .0), side-back (c .pre .1 .0)) (difference-fits (c .pre .0) (c .pre .1 .0))
 
-sub-lift : tie.Need-sub-lift
-sub-lift c = search needs
+cast-distance : tie.Need-cast-distance
+cast-distance c = let l = small (c .before) .0 in record { sfits = omega arith }
 
-mul-divided : tie.Need-mul-divided
-mul-divided c = let d = dividing (c .before) in record { fits = omega arith }
+add-distance : tie.Need-add-distance
+add-distance c = let b = small (c .before) .2 in rw (lifted (c .before)) (record { sfits = omega arith })
 
-add-divided : tie.Need-add-divided
-add-divided c = let d = dividing (c .before .before) in record { fits = omega arith }
+cast-distance-2 : tie.Need-cast-distance-2
+cast-distance-2 c = let b = small (c .before) .2 in rw (lifted (c .before), cast (c .before)) (tt, record { fits = omega arith })
 
-divided-requires : tie.Need-divided-requires
-divided-requires c κs = (dividing (c .before .before), c .before .before .before .before .pre .1 .1 .1)
+quotient-of-requires : tie.Need-quotient-of-requires
+quotient-of-requires c κs = rw (lifted (c .before), cast (c .before)) (known (c .before) .far, c .before .pre .1 .1)
 
--- so is the quotient
-steps-fit : (c : tie.After-divided) → SFits w32 (pos (c .divided .result))
-steps-fit c =
-    let j = c .before .before .before in
-    let bound = steps-small (j .before .before .args .den) (j .before .before .pre .1 .1 .0) (rising (j .before)) (j .if1 .lift) (small j) in
-    let e = c .divided .ensures in
-    record { sfits = omega arith }
+-- the quotient found is that of the distance
+found : (c : tie.After-quotient-of) →
+    let s = c .before .before in
+    pos (c .quotient-of .result .steps) ≡ quotient (roundingOf (s .args .up)) (pos (known s .by * s .args .w .t)) (s .args .w .den)
+found c = rw (lifted (c .before .before), cast (c .before .before)) at (c .quotient-of .ensures .0)
 
-cast-result : tie.Need-cast-result
-cast-result c = steps-fit c
+cast-start : tie.Need-cast-start
+cast-start c = let b = small (c .before .before .before) .1 in record { sfits = omega arith }
 
--- the sum is the map
-reached : (c : tie.After-divided) →
-    let j = c .before .before .before in
-    let a = j .before .before .args in
-    j .before .rise-of .result .from +ℤ pos (c .divided .result) ≡ affine (roundingOf (a .up)) (a .s) (a .t) (a .den) (a .a) (a .b)
-reached c =
-    let j = c .before .before .before in
-    let r = j .before .rise-of .result in
-    let a = j .before .before .args in
-    ap (λ (q : ℕ). r .from +ℤ pos q) (c .divided .ensures)
-    ∙ ap (λ (l : ℕ). r .from +ℤ pos ((r .factor * r .by + l) / a .den)) (lifted j)
-    ∙ risen (a .den) (j .before .before .pre .1 .1 .0) (rising (j .before)) (a .up)
+sub-start : tie.Need-sub-start
+sub-start c =
+    let s = c .before .before .before in
+    let b = small s .1 in
+    rw (side-back (s .pre .0), signed (s .args .w .back) (omega arith)) (start-fits (s .pre .0) (s .args .w) (s .pre .1 .1))
 
--- which is a side
-landed : (c : tie.After-divided) →
-    let j = c .before .before .before in
-    let a = j .before .before .args in
-    Side (affine (roundingOf (a .up)) (a .s) (a .t) (a .den) (a .a) (a .b))
-landed c =
-    let j = c .before .before .before in
-    let a = j .before .before .args in
-    let p = j .before .before .pre in
-    affine-side-held (roundingOf (a .up)) (a .s) (a .t) (a .den) (a .a) (a .b) (p .1 .1 .0) (p .0) (p .1 .0)
+fewer : (c : tie.After-quotient-of) → c .quotient-of .result .steps < 2147483648
+fewer c =
+    let s = c .before .before in
+    let b = small s .2 in
+    let most = steps-small (known s .by) (c .quotient-of .result .steps) (s .args .w) (roundingOf (s .args .up)) (s .pre .1 .1) (found c) in
+    omega arith
 
-add-result : tie.Need-add-result
-add-result c =
+cast-t10 : tie.Need-cast-t10
+cast-t10 c = let f = fewer (c .before .before) in record { sfits = omega arith }
+
+-- the sum is the map, which is a side
+summed : (c : tie.After-quotient-of) (s : ℕ) → let a = c .before .before .args in s + a .w .t ≡ a .w .den →
+    toZ w32 (ofZ w32 (toZ w32 (ofZ w32 (a .a)) -ℤ toZ w32 (a .w .back))) +ℤ toZ w32 (c .quotient-of .result .steps)
+    ≡ affine (roundingOf (a .up)) s (a .w .t) (a .w .den) (a .a) (a .b)
+summed c s total =
     let v = c .before .before in
-    rw (side-back (rising (v .before .before .before .before) .start), back (steps-fit v), reached v) (side-fits (landed v))
+    let a = v .args in
+    let p = v .pre in
+    let b = small v .1 in
+    rw (side-back (p .0), signed (a .w .back) (omega arith), back (start-fits (p .0) (a .w) (p .1 .1)), signed (c .quotient-of .result .steps) (fewer c))
+    (ap (λ (q : ℤ). a .a -ℤ pos (a .w .back) +ℤ q) (found c) ∙ reached (a .w) (p .1 .1) (known v) s total (roundingOf (a .up)))
+
+landed : (c : tie.Start) (s : ℕ) → s + c .args .w .t ≡ c .args .w .den →
+    Side (affine (roundingOf (c .args .up)) s (c .args .w .t) (c .args .w .den) (c .args .a) (c .args .b))
+landed c s total =
+    let a = c .args in
+    let f = c .pre .1 .1 .factor in
+    affine-side-held (roundingOf (a .up)) s (a .w .t) (a .w .den) (a .a) (a .b) (record { total = total; positive = f .positive; small = f .small }) (c .pre .0) (c .pre .1 .0)
+
+add-t8 : tie.Need-add-t8
+add-t8 c =
+    let v = c .before .before in
+    let w = v .before .before .args .w in
+    let most = v .before .before .pre .1 .1 .factor .most in
+    let total : w .den - w .t + w .t ≡ w .den = omega arith in
+    rw (summed v (w .den - w .t) total) (side-fits (landed (v .before .before) (w .den - w .t) total))
 
 returns : tie.Need-returns
-returns c =
+returns c s total =
     let v = c .before .before in
-    rw (side-back (rising (v .before .before .before .before) .start), back (steps-fit v), reached v) (side-back (landed v))
+    let a = v .before .before .args in (
+      rw (summed v s total) (side-back (landed (v .before .before) s total)),
+      (rw (lifted (v .before .before), cast (v .before .before)) at (v .quotient-of .ensures .1)) ∙ left-none (a .w) (v .before .before .pre .1 .1) (known (v .before .before)) s total,
+    )
 
 pub affine-side-spec : {M : Type 1} → statement M
 affine-side-spec =
     tie.close
     (tie.spec
-    rise-of-requires
-    sub-lift
-    mul-divided
-    add-divided
-    divided-requires
-    cast-result
-    add-result
+    sub-distance
+    cast-distance
+    add-distance
+    cast-distance-2
+    quotient-of-requires
+    cast-start
+    sub-start
+    cast-t10
+    add-t8
     returns)

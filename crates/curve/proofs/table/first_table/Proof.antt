@@ -1,6 +1,7 @@
 -- `first_table` meets its contract. The invariant: the right side's places up to k are filled. The measure is what is left of the record's places.
 -- Assumes nothing.
-use mathlib.Core.Path.{_≡_, ap, _∙_}
+use mathlib.Core.Path.{_≡_, refl, ap, _∙_}
+use mathlib.Core.Bool.{true}
 use mathlib.Core.List.{List}
 use Prim.Native.Nat.{ℕ, _+_, _-_, _≤_}
 use native.Mathlib.Omega.{arith}
@@ -14,7 +15,8 @@ use Rattle.curve.proofs.table.first_table.Statement.{statement}
 use Rattle.curve.proofs.table.first_table.Tie as tie
 
 abbrev Inv-loop : tie.InvT-loop
-Inv-loop c n table₀ k₀ table k = (n ≤ maxDegree) × (k ≤ n) × (table .left ≡ pointsOf 0 (point c)) × (table .right ≡ pointsOf k (point c))
+Inv-loop c n table₀ k₀ table k =
+    (n ≤ maxDegree) × (k ≤ n) × (table .left ≡ pointsOf 0 (point c)) × (table .right ≡ pointsOf k (point c)) × (table .exact ≡ true)
 
 abbrev μ-loop : tie.MeasureT-loop
 μ-loop c n table₀ k₀ table k = maxDegree - k
@@ -37,7 +39,7 @@ element-set-from-first-2 c = search needs
 loop-holds : tie.Need-loop-holds Inv-loop μ-loop
 loop-holds c =
     let first = points-first (point (c .before .before .args .t1)) in
-    (c .before .before .pre, omega arith, rw (c .before .zero-rect .ensures) first, rw (c .before .zero-rect .ensures) first)
+    (c .before .before .pre, omega arith, rw (c .before .zero-rect .ensures) first, rw (c .before .zero-rect .ensures) first, refl)
 
 add-k : tie.Need-add-k Inv-loop μ-loop
 add-k c = omega arith
@@ -61,14 +63,14 @@ loop-again : tie.Need-loop-again Inv-loop μ-loop
 loop-again c =
     let l = c .before .before .loop in
     let P = point (c .before .before .before .before .before .args .t1) in
-    (l .inv .0, omega arith, l .inv .2, ap (λ (x : List Rect). set x (l .k + 1) (P (l .k + 1))) (l .inv .3) ∙ points-next (l .k) P (omega arith))
+    (l .inv .0, omega arith, l .inv .2, ap (λ (x : List Rect). set x (l .k + 1) (P (l .k + 1))) (l .inv .3) ∙ points-next (l .k) P (omega arith), l .inv .4)
 
 returns : tie.Need-returns Inv-loop μ-loop
 returns c =
     let l = c .before .loop in
     let a = c .before .before .before .before .args .t1 in
     let done : l .k ≡ a .degree = omega arith in
-    (l .inv .2, l .inv .3 ∙ ap (λ (k : ℕ). pointsOf k (point a)) done)
+    (l .inv .2, l .inv .3 ∙ ap (λ (k : ℕ). pointsOf k (point a)) done, l .inv .4)
 
 pub first-table-spec : {M : Type 1} → statement M
 first-table-spec =

@@ -1,32 +1,20 @@
--- `table_of` meets its contract. The invariant: the right side holds the table as far as stage j, with the first k maps of the next stage made, and the left side the first j + 1 points of the left piece.
+-- `table_of` meets its contract. The invariant: in stage j + 1 the first k maps are made. The measure is what is left of the stages, and of the maps in each.
 -- Assumes nothing.
-use mathlib.Core.Path.{_≡_, refl, sym, ap, ap₂, _∙_, subst}
+use mathlib.Core.Path.{_≡_, sym, ap, _∙_, subst, subst₂}
+use mathlib.Core.Bool.{Bool, _&&_}
 use mathlib.Core.List.{List}
-use Prim.Native.Nat.{ℕ, _+_, _*_, _-_, _≤_, _<_}
+use Prim.Native.Nat.{ℕ, suc, _+_, _*_, _-_, _≤_, _<_}
 use native.Mathlib.Omega.{arith}
 use borrow.Author.Needs.{needs}
 use lib.ListN.{getD, set}
-use Rattle.curve.specs.Limits.{maxDegree, places}
-use Rattle.bernstein.specs.DeCasteljau as DeCasteljau
-use Rattle.bernstein.proofs.Table.{left-first}
 use Rattle.curve.specs.declared.Rect.{Rect}
-use Rattle.curve.specs.Rect.{affineRect, zeroRect}
-use Rattle.curve.specs.Curve.{point, pointsOf, leftOf, rightOf}
+use Rattle.curve.specs.Limits.{maxDegree, places}
+use Rattle.curve.specs.Rect.{affineRect, exactRect, zeroRect}
+use Rattle.curve.specs.Curve.{point, pointsOf, leftOf, rightOf, tableExact}
 use Rattle.curve.specs.Inner.{Held}
-use Rattle.curve.proofs.Places.{points-next, points-at, points-agree, points-length}
-use Rattle.curve.proofs.Stages.{
-  staged,
-  staged-start,
-  staged-kept,
-  staged-next,
-  entryAfter,
-  stage-start,
-  stage-next,
-  stage-end,
-  stage-first,
-  stage-held,
-  pieces-agree,
-}
+use Rattle.curve.proofs.Places.{points-at, points-agree}
+use Rattle.curve.proofs.Stages.{table-held}
+use Rattle.curve.proofs.MadeTable.{Made, made-start, made-entry, made-map, made-stage, made-end}
 use Rattle.curve.proofs.table.table_of.Statement.{statement}
 use Rattle.curve.proofs.table.table_of.Tie as tie
 
@@ -34,72 +22,68 @@ use Rattle.curve.proofs.table.table_of.Tie as tie
 abbrev controls : List Rect → ℕ → Rect
 controls l k = getD l k zeroRect
 
+-- the map of the parameter, and whether it leaves no remainder
+abbrev mapOf : ℕ → ℕ → Rect → Rect → Rect
+mapOf num den = affineRect (den - num) num den
+
+abbrev testOf : ℕ → ℕ → Rect → Rect → Bool
+testOf num den = exactRect (den - num) num den
+
 abbrev Inv-loop : tie.InvT-loop
-Inv-loop num den n s t d inverse table₀ j₀ k₀ table j k =
+Inv-loop num den n w table₀ j₀ k₀ table j k =
     (n ≤ maxDegree)
     × (j ≤ n)
     × (k ≤ n - j)
     × (j < n → k < n - j)
-    × (table .right ≡ staged k (affineRect s t d) (pointsOf n (entryAfter (affineRect s t d) (controls (table₀ .right)) n j)))
-    × (table .left ≡ pointsOf j (DeCasteljau.left (affineRect s t d) (controls (table₀ .right))))
+    × Made (mapOf num den) (testOf num den) (controls (table₀ .right)) n j k table
 
 abbrev μ-loop : tie.MeasureT-loop
-μ-loop num den n s t d inverse table₀ j₀ k₀ table j k = (n - j) * (places + 1) - k
+μ-loop num den n w table₀ j₀ k₀ table j k = (n - j) * (places + 1) - k
+
+-- the function's start, from where the first table is made
+abbrev startOf : tie.After-first-table Inv-loop μ-loop → tie.Start Inv-loop μ-loop
+startOf c = c .before .before .before
 
 -- the first table has the curve's control points
-same : (c : tie.After-first-table Inv-loop μ-loop) (k : ℕ) → k ≤ c .before .before .args .c .degree → controls (c .first-table .result .right) k ≡ point (c .before .before .args .c) k
+same : (c : tie.After-first-table Inv-loop μ-loop) (k : ℕ) → k ≤ startOf c .args .c .degree → controls (c .first-table .result .right) k ≡ point (startOf c .args .c) k
 same c k h =
-    let e = c .before .before .args .c in
-    let few = c .before .before .pre .0 .few in
+    let e = startOf c .args .c in
+    let few = startOf c .pre .0 .few in
     ap (λ (l : List Rect). getD l k zeroRect) (c .first-table .ensures .1) ∙ points-at (e .degree) (point e) k (omega arith) h
 
--- so the left piece begins with the first of them
-first : (c : tie.After-first-table Inv-loop μ-loop) (k : ℕ) → k ≡ 0 →
-    let a = c .before .before .args in
-    point (a .c) k ≡ DeCasteljau.left (affineRect (a .den - a .num) (a .num) (a .den)) (controls (c .first-table .result .right)) k
-first c k e =
-    let a = c .before .before .args in
-    let map = affineRect (a .den - a .num) (a .num) (a .den) in
-    let P = controls (c .first-table .result .right) in
-    subst (λ (i : ℕ). point (a .c) i ≡ DeCasteljau.left map P i) (sym e) (sym (left-first map P ∙ same c 0 (omega arith)))
-
 -- in a turn the stage has a map left to make
-inside : (c : tie.In-loop Inv-loop μ-loop) → c .before .loop .k < c .before .before .before .before .args .c .degree - c .before .loop .j
+inside : (c : tie.In-loop Inv-loop μ-loop) → c .before .loop .j + suc (c .before .loop .k) ≤ startOf (c .before .before) .args .c .degree
 inside c =
-    let some = c .before .before .before .before .pre .0 .some in
+    let some = startOf (c .before .before) .pre .0 .some in
     let test = c .loop-test .taken in
-    c .before .loop .inv .3 (omega arith)
+    let left = c .before .loop .inv .3 (omega arith) in
+    omega arith
 
 cast-n : tie.Need-cast-n Inv-loop μ-loop
 cast-n c = omega (arith, c .before .pre .0 .few)
 
-sub-s : tie.Need-sub-s Inv-loop μ-loop
-sub-s c = let total = c .before .pre .1 .total in omega arith
-
-cast-s : tie.Need-cast-s Inv-loop μ-loop
-cast-s c = let f = c .before .pre .1 in omega arith
-
-div-inverse : tie.Need-div-inverse Inv-loop μ-loop
-div-inverse c = c .before .pre .1 .positive
+weights-at-requires : tie.Need-weights-at-requires Inv-loop μ-loop
+weights-at-requires c κs =
+    let f = c .before .pre .1 in
+    let total = f .total in
+    record { positive = f .positive; small = f .small; most = omega arith }
 
 first-table-requires : tie.Need-first-table-requires Inv-loop μ-loop
-first-table-requires c κs = c .before .pre .0 .few
+first-table-requires c κs = c .before .before .pre .0 .few
 
 loop-holds : tie.Need-loop-holds Inv-loop μ-loop
 loop-holds c =
-    let a = c .before .before .args in
+    let s = startOf c in
+    let a = s .args in
     let n = a .c .degree in
     let P = controls (c .first-table .result .right) in
-    let map = affineRect (a .den - a .num) (a .num) (a .den) in (
-      c .before .before .pre .0 .few,
+    let first = c .first-table .ensures in
+    let agree : (m : ℕ) → m ≤ n → pointsOf m (point (a .c)) ≡ pointsOf m P = λ m h. points-agree m (point (a .c)) P (λ k l. sym (same c k (omega arith))) in (
+      s .pre .0 .few,
       omega arith,
       omega arith,
       (λ h. omega arith),
-      c .first-table .ensures .1
-          ∙ points-agree n (point (a .c)) P (λ k h. sym (same c k h))
-          ∙ stage-start map P n
-          ∙ staged-start map (pointsOf n (entryAfter map P n 0)) (points-length n (entryAfter map P n 0)),
-      c .first-table .ensures .0 ∙ points-agree 0 (point (a .c)) (DeCasteljau.left map P) (λ k h. first c k (omega arith)),
+      made-start (mapOf (a .num) (a .den)) (testOf (a .num) (a .den)) P n (c .first-table .result) (first .0 ∙ agree 0 (omega arith)) (first .1 ∙ agree n (omega arith)) (first .2),
     )
 
 mul-p : tie.Need-mul-p Inv-loop μ-loop
@@ -117,137 +101,114 @@ mul-q c = let room = inside (c .before) in omega arith
 element-copy-out-q : tie.Need-element-copy-out-q Inv-loop μ-loop
 element-copy-out-q c = let room = inside (c .before) in omega arith
 
--- an entry that the stage has not mapped yet is in range
-waiting : (c : tie.In-loop Inv-loop μ-loop) (i : ℕ) → c .before .loop .k ≤ i → i ≤ c .before .before .before .before .args .c .degree - c .before .loop .j →
+-- a place that the stage has not mapped yet is in range
+held : (c : tie.In-loop Inv-loop μ-loop) (i : ℕ) → c .before .loop .k ≤ i → c .before .loop .j + i ≤ startOf (c .before .before) .args .c .degree →
     Held (getD (c .before .loop .table .right) i zeroRect)
-waiting c i from to =
+held c i from to =
     let l = c .before .loop in
     let t = c .before .before in
-    let a = t .before .before .args in
+    let a = startOf t .args in
     let n = a .c .degree in
-    let p = t .before .before .pre in
+    let p = startOf t .pre in
     let P = controls (t .first-table .result .right) in
-    let map = affineRect (a .den - a .num) (a .num) (a .den) in
-    let held : (k : ℕ) → k ≤ n → Held (P k) = λ k h. subst Held (sym (same t k h)) (p .0 .held k h) in
-    let room = inside c in
-    let kept : getD (l .table .right) i zeroRect ≡ getD (pointsOf n (entryAfter map P n (l .j))) i zeroRect =
-    ap (λ (x : List Rect). getD x i zeroRect) (l .inv .4) ∙ staged-kept map (pointsOf n (entryAfter map P n (l .j))) (l .k) i from (omega arith) in
-    subst Held (sym kept) (stage-held (a .den - a .num) (a .num) (a .den) P n (p .1) (omega arith) held (l .j) i (omega arith))
+    let few = p .0 .few in
+    subst Held (sym (made-entry (mapOf (a .num) (a .den)) (testOf (a .num) (a .den)) P n (omega arith) (l .j) (l .k) (l .table) (l .inv .4) i from to))
+    (table-held (a .den - a .num) (a .num) (a .den) P n (p .1) (λ k h. subst Held (sym (same t k h)) (p .0 .held k h)) (l .j) i to)
 
 affine-rect-requires : tie.Need-affine-rect-requires Inv-loop μ-loop
 affine-rect-requires c κs =
     let i = c .before .before in
     let k = i .before .loop .k in
     let room = inside i in
-    let f = i .before .before .before .before .pre .1 in
-    let total = f .total in (
-      waiting i k (omega arith) (omega arith),
-      (
-        waiting i (k + 1) (omega arith) (omega arith),
-        (record { total = omega arith; positive = f .positive; small = f .small }, refl),
-      ),
-    )
+    (held i k (omega arith) (omega arith), (held i (k + 1) (omega arith) (omega arith), i .before .before .before .weights-at .ensures .2))
 
-mul-t17 : tie.Need-mul-t17 Inv-loop μ-loop
-mul-t17 c = let room = inside (c .before .before .before) in omega arith
+-- the turn that a map is made in
+abbrev turnOf : tie.After-affine-rect Inv-loop μ-loop → tie.In-loop Inv-loop μ-loop
+turnOf c = c .before .before .before
 
-element-set-from-table : tie.Need-element-set-from-table Inv-loop μ-loop
-element-set-from-table c = let room = inside (c .before .before .before) in omega arith
+mul-rect : tie.Need-mul-rect Inv-loop μ-loop
+mul-rect c = let room = inside (turnOf (c .before)) in omega arith
+
+element-set-from-rect : tie.Need-element-set-from-rect Inv-loop μ-loop
+element-set-from-rect c = let room = inside (turnOf (c .before)) in omega arith
 
 add-k : tie.Need-add-k Inv-loop μ-loop
-add-k c = let room = inside (c .before .before .before) in omega arith
+add-k c = let room = inside (turnOf (c .before .before)) in omega arith
 
 add-if1 : tie.Need-add-if1 Inv-loop μ-loop
-add-if1 c = let room = inside (c .before .before .before) in omega arith
+add-if1 c = let room = inside (turnOf (c .before .before)) in omega arith
 
 add-j : tie.Need-add-j Inv-loop μ-loop
-add-j c = let room = inside (c .before .before .before .before) in omega arith
+add-j c = let room = inside (turnOf (c .before .before .before)) in omega arith
 
 element-copy-out-table : tie.Need-element-copy-out-table Inv-loop μ-loop
 element-copy-out-table c = search needs
 
-mul-t29 : tie.Need-mul-t29 Inv-loop μ-loop
-mul-t29 c = let room = inside (c .before .before .before .before .before) in omega arith
-
-element-set-from-table-2 : tie.Need-element-set-from-table-2 Inv-loop μ-loop
-element-set-from-table-2 c = let room = inside (c .before .before .before .before .before) in omega arith
+element-set-from-table : tie.Need-element-set-from-table Inv-loop μ-loop
+element-set-from-table c = let room = inside (turnOf (c .before .before .before .before)) in omega arith
 
 loop-less : tie.Need-loop-less Inv-loop μ-loop
-loop-less c = let room = inside (c .before .before .before .before .before) in omega arith
+loop-less c = let room = inside (turnOf (c .before .before .before .before)) in omega arith
 
--- the turn's store makes one map more
+-- the table after a turn's map
 mapped : (c : tie.After-affine-rect Inv-loop μ-loop) →
-    let l = c .before .before .before .before .loop in
-    let t = c .before .before .before .before .before in
-    let a = t .before .before .args in
-    let map = affineRect (a .den - a .num) (a .num) (a .den) in
-    set (l .table .right) (l .k) (c .affine-rect .result) ≡ staged (l .k + 1) map (pointsOf (a .c .degree) (entryAfter map (controls (t .first-table .result .right)) (a .c .degree) (l .j)))
+    let l = turnOf c .before .loop in
+    let t = turnOf c .before .before in
+    let a = startOf t .args in
+    let r = c .affine-rect .result in
+    Made (mapOf (a .num) (a .den)) (testOf (a .num) (a .den)) (controls (t .first-table .result .right)) (a .c .degree) (l .j) (l .k + 1)
+    (record { left = l .table .left; right = set (l .table .right) (l .k) (r .rect); exact = l .table .exact && r .exact })
 mapped c =
-    let i = c .before .before .before in
-    let l = i .before .loop in
-    let t = i .before .before in
-    let a = t .before .before .args in
-    let map = affineRect (a .den - a .num) (a .num) (a .den) in
-    let room = inside i in
-    ap (λ (v : Rect). set (l .table .right) (l .k) v) (c .affine-rect .ensures)
-    ∙ staged-next map (pointsOf (a .c .degree) (entryAfter map (controls (t .first-table .result .right)) (a .c .degree) (l .j))) (l .k) (omega arith) (l .table .right) (l .inv .4)
+    let l = turnOf c .before .loop in
+    let t = turnOf c .before .before in
+    let a = startOf t .args in
+    let s = a .den - a .num in
+    let few = startOf t .pre .0 .few in
+    let w = t .before .weights-at .ensures in
+    let r = c .affine-rect .result in
+    let p = getD (l .table .right) (l .k) zeroRect in
+    let q = getD (l .table .right) (l .k + 1) zeroRect in
+    let made : (r .rect ≡ mapOf (a .num) (a .den) p q) × (r .exact ≡ testOf (a .num) (a .den) p q) =
+    subst₂ (λ (x d : ℕ). (r .rect ≡ affineRect s x d p q) × (r .exact ≡ exactRect s x d p q)) (w .0) (w .1)
+    (c .affine-rect .ensures s (subst₂ (λ (x d : ℕ). s + x ≡ d) (sym (w .0)) (sym (w .1)) (startOf t .pre .1 .total))) in
+    made-map (mapOf (a .num) (a .den)) (testOf (a .num) (a .den)) (controls (t .first-table .result .right)) (a .c .degree) (omega arith) (l .j) (l .k) (l .table) (l .inv .4)
+    (r .rect) (r .exact) (made .0) (made .1) (inside (turnOf c))
 
 loop-again : tie.Need-loop-again Inv-loop μ-loop
 loop-again c =
-    let m = c .before .before in
-    let i = m .before .before .before in
-    let l = i .before .loop in
-    let t = i .before .before in
-    let a = t .before .before .args in
+    let m = c .before .before .before .before in
+    let l = turnOf m .before .loop in
+    let t = turnOf m .before .before in
+    let a = startOf t .args in
     let n = a .c .degree in
-    let P = controls (t .first-table .result .right) in
-    let map = affineRect (a .den - a .num) (a .num) (a .den) in
-    let L = DeCasteljau.left map P in
-    let room = inside i in
-    let last : l .k + 1 ≡ n - l .j = omega (arith, c .before .if1 .taken) in
-    let next : set (l .table .right) (l .k) (m .affine-rect .result) ≡ pointsOf n (entryAfter map P n (l .j + 1)) =
-    mapped m ∙ ap (λ (x : ℕ). staged x map (pointsOf n (entryAfter map P n (l .j)))) last ∙ stage-next map P n (l .j) (omega arith) (omega arith) in
-    let first : getD (set (l .table .right) (l .k) (m .affine-rect .result)) 0 zeroRect ≡ L (l .j + 1) =
-    ap (λ (x : List Rect). getD x 0 zeroRect) next ∙ stage-first map P n (l .j + 1) (omega arith) in (
+    let few = startOf t .pre .0 .few in
+    let room = inside (turnOf m) in
+    let last : l .k + 1 ≡ n - l .j = omega (arith, c .before .if1 .taken) in (
       l .inv .0,
       omega arith,
       omega arith,
       (λ h. omega arith),
-      next ∙ staged-start map (pointsOf n (entryAfter map P n (l .j + 1))) (points-length n (entryAfter map P n (l .j + 1))),
-      ap₂ (λ (x : List Rect) (v : Rect). set x (l .j + 1) v) (l .inv .5) first ∙ points-next (l .j) L (omega arith),
+      made-stage (mapOf (a .num) (a .den)) (testOf (a .num) (a .den)) (controls (t .first-table .result .right)) n (omega arith) (l .j) (l .k + 1) _ (mapped m) last (omega arith),
     )
 
 loop-less-2 : tie.Need-loop-less-2 Inv-loop μ-loop
-loop-less-2 c = let room = inside (c .before .before .before .before) in omega arith
+loop-less-2 c = let room = inside (turnOf (c .before .before .before)) in omega arith
 
 loop-again-2 : tie.Need-loop-again-2 Inv-loop μ-loop
 loop-again-2 c =
-    let i = c .before .before .before .before in
-    let l = i .before .loop in
-    let room = inside i in
+    let m = c .before .before .before in
+    let l = turnOf m .before .loop in
+    let room = inside (turnOf m) in
     let more = c .if1 .left in
-    (l .inv .0, l .inv .1, omega arith, (λ h. omega arith), mapped (c .before), l .inv .5)
+    (l .inv .0, l .inv .1, omega arith, (λ h. omega arith), mapped m)
 
 returns : tie.Need-returns Inv-loop μ-loop
-unfolding leftOf rightOf
+unfolding leftOf rightOf tableExact
 returns c =
     let l = c .before .loop in
     let t = c .before .before in
-    let a = t .before .before .args in
-    let n = a .c .degree in
-    let P = controls (t .first-table .result .right) in
-    let map = affineRect (a .den - a .num) (a .num) (a .den) in
-    let done : l .j ≡ n = omega arith in
-    let none : l .k ≡ 0 = omega arith in
-    let entries = pointsOf n (entryAfter map P n (l .j)) in
-    let agree = pieces-agree map P (point (a .c)) n (same t) in (
-      l .inv .5 ∙ ap (λ (j : ℕ). pointsOf j (DeCasteljau.left map P)) done ∙ agree .0,
-      l .inv .4
-          ∙ ap (λ (x : ℕ). staged x map entries) none
-          ∙ sym (staged-start map entries (points-length n (entryAfter map P n (l .j))))
-          ∙ stage-end map P n (l .j) (omega arith)
-          ∙ agree .1,
-    )
+    let a = startOf t .args in
+    made-end (mapOf (a .num) (a .den)) (testOf (a .num) (a .den)) (controls (t .first-table .result .right)) (a .c .degree) (l .j) (l .k) (l .table) (l .inv .4) (omega arith) (omega arith) (point (a .c)) (same t)
 
 pub table-of-spec : {M : Type 1} → statement M
 table-of-spec =
@@ -256,9 +217,7 @@ table-of-spec =
     Inv-loop
     μ-loop
     cast-n
-    sub-s
-    cast-s
-    div-inverse
+    weights-at-requires
     first-table-requires
     loop-holds
     mul-p
@@ -267,14 +226,14 @@ table-of-spec =
     mul-q
     element-copy-out-q
     affine-rect-requires
-    mul-t17
-    element-set-from-table
+    mul-rect
+    element-set-from-rect
     add-k
     add-if1
     add-j
     element-copy-out-table
-    mul-t29
-    element-set-from-table-2
+    (λ c. let room = inside (turnOf (c .before .before .before .before)) in omega arith)
+    element-set-from-table
     loop-less
     loop-again
     loop-less-2

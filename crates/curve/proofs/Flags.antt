@@ -1,0 +1,88 @@
+-- The exact flags: evaluation and subdivision share one, which is lit at both ends; a lit one tells that the call was accepted, and that no map of any side left a remainder.
+-- Assumes nothing.
+use mathlib.Core.Path.{_≡_, sym, ap, _∙_, subst, subst₂}
+use mathlib.Core.Bool.{Bool, true, false}
+use Prim.Native.Nat.{ℕ, suc, _+_, _-_, _≤_, _<_}
+use native.Mathlib.Nat.{sub-zero, sub-self}
+use native.Mathlib.Omega.{arith}
+use lib.Dec.{T}
+use lib.IntN.{ℤ}
+use Rattle.rational.specs.Rounding.{Rounding}
+use Rattle.bernstein.specs.Affine.{affine, affineExact}
+use Rattle.bernstein.specs.DeCasteljau.{table}
+use Rattle.bernstein.proofs.EveryMap.{all-at, every-at, every-of}
+use Rattle.curve.specs.declared.Curve.{Curve}
+use Rattle.curve.specs.declared.Elevation.{Elevation}
+use Rattle.curve.specs.declared.Evaluation.{Evaluation}
+use Rattle.curve.specs.declared.Rect.{Rect}
+use Rattle.curve.specs.declared.Subdivision.{Subdivision}
+use Rattle.curve.specs.Rect.{Coordinate, side, exactRect}
+use Rattle.curve.specs.Curve.{point, mapAt, tableExact, elevatedExact, elevationExact}
+use Rattle.curve.specs.Calls.{callRefusal, elevationRefusal}
+use Rattle.curve.specs.Promises.{SameFlag, LitEnds, LitAccepted}
+use Rattle.curve.proofs.Refused.{by-number}
+use Rattle.curve.proofs.Accepted.{call-accepted, elevation-accepted, parameter-facts}
+use Rattle.curve.proofs.Answers.{evaluated-accepted, evaluated-refused, subdivided-refused, elevated-refused}
+use Rattle.curve.proofs.EndPoints.{start-accepted, exact-rect-first, exact-rect-second}
+use Rattle.curve.proofs.Loads.{evaluated-first}
+use Rattle.curve.proofs.Points.{sides, side-table}
+use Rattle.curve.proofs.RectSides.{exact-sides}
+
+pub same-flag : SameFlag
+same-flag c num den = sym (ap (λ (e : Evaluation). e .exact) (evaluated-first c num den))
+
+-- ---- only an accepted call is lit
+
+lit-dark : {A : Type 0} {b : Bool} → b ≡ true → b ≡ false → A
+lit-dark lit dark = absurd (subst T (sym lit ∙ dark) tt)
+
+pub lit-accepted : LitAccepted
+lit-accepted = record {
+  evaluating = λ c num den lit. by-number (callRefusal c num den .number) (call-accepted c num den)
+      (λ e. lit-dark lit (ap (λ (x : Evaluation). x .exact) (evaluated-refused c num den e)));
+  subdividing = λ c num den lit. by-number (callRefusal c num den .number) (call-accepted c num den)
+      (λ e. lit-dark lit (ap (λ (x : Subdivision). x .exact) (subdivided-refused c num den e)));
+  elevating = λ c lit. by-number (elevationRefusal c .number) (elevation-accepted c)
+      (λ e. lit-dark lit (ap (λ (x : Elevation). x .exact) (elevated-refused c e)));
+}
+
+-- ---- both ends
+
+-- a test that holds of any two points
+all-lit : (c : Curve) (num den : ℕ) → ((p q : Rect) → exactRect (den - num) num den p q ≡ true) → tableExact c num den ≡ true
+unfolding tableExact
+all-lit c num den all = every-of (mapAt num den) (exactRect (den - num) num den) (point c) (c .degree) (λ j k h. all _ _)
+
+module _ (c : Curve) (den : ℕ) (positive : 0 < den) where
+  lit-first : tableExact c 0 den ≡ true
+  lit-first = all-lit c 0 den (λ p q. ap (λ (s : ℕ). exactRect s 0 den p q) (sub-zero den) ∙ exact-rect-first den positive p q)
+
+  lit-last : tableExact c den den ≡ true
+  lit-last = all-lit c den den (λ p q. ap (λ (s : ℕ). exactRect s den den p q) (sub-self den) ∙ exact-rect-second den positive p q)
+
+pub lit-ends : LitEnds
+lit-ends c den a h =
+    let positive = parameter-facts den den h .factors .positive in (
+      ap (λ (e : Evaluation). e .exact) (evaluated-accepted c 0 den a (start-accepted den h)) ∙ lit-first c den positive,
+      ap (λ (e : Evaluation). e .exact) (evaluated-accepted c den den a h) ∙ lit-last c den positive,
+    )
+
+-- ---- what a lit flag says of each side
+
+module _ (c : Curve) (x : Coordinate) (r : Rounding) where
+  pub table-lit :
+      (num den : ℕ) → tableExact c num den ≡ true → (j k : ℕ) → j + suc k ≤ c .degree →
+      let entry = table (affine r (den - num) num den) (sides x r (point c)) in
+      affineExact (den - num) num den (entry j k) (entry j (suc k)) ≡ true
+  unfolding tableExact
+  table-lit num den lit j k h =
+      let same = side-table x r (point c) (den - num) num den in
+      subst₂ (λ (a b : ℤ). affineExact (den - num) num den a b ≡ true) (same j k) (same j (suc k))
+      (exact-sides (den - num) num den _ _ (every-at (mapAt num den) (exactRect (den - num) num den) (point c) (c .degree) lit j k h) x r)
+
+  pub elevation-lit :
+      elevationExact c ≡ true → (k : ℕ) → k ≤ c .degree + 1 →
+      affineExact k (c .degree + 1 - k) (c .degree + 1) (side x r (point c (k - 1))) (side x r (point c k)) ≡ true
+  unfolding elevationExact elevatedExact
+  elevation-lit lit k h =
+      exact-sides k (c .degree + 1 - k) (c .degree + 1) _ _ (all-at (c .degree + 2) (elevatedExact (c .degree) (point c)) lit k (omega arith)) x r

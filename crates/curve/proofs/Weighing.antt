@@ -1,0 +1,193 @@
+-- What a map's weights give: the estimate of its quotient is off by less than 1, its numbers fit their types, and counted from the lifted start the quotient reaches the map.
+-- Assumes nothing.
+use mathlib.Core.Path.{_≡_, refl, sym, ap, ap₂, _∙_}
+use Prim.Native.Nat.{ℕ, _+_, _*_, _-_, _/_, _^_, _≤_, _<_}
+use native.Mathlib.Nat.{mul-le-mul, mul-le-mul-left, mul-le-mul-right, le-of-mul-le-mul-right, lt-of-mul-lt-mul-right, div-mul-le-self, lt-div-mul-add}
+use native.Mathlib.Omega.{arith}
+use lib.IntN.{ℤ, pos, negsuc, negℤ, _+ℤ_, _-ℤ_, _*ℤ_, +ℤ-comm, +ℤ-assoc, +ℤ-idr, +ℤ-negℤ-cancel, pos-+ℤ-pos, pos-*ℤ-pos}
+use lib.Signed.{_≤ℤ_}
+use mir.Syntax.{w32}
+use mir.Val.{SFits}
+use Rattle.rational.specs.Rounding.{Rounding, quotient, divisible}
+use Rattle.rational.proofs.Whole.{integer-ring, add-left-comm, add-right-cancel}
+use Rattle.rational.proofs.Order.{≤ℤ-trans, ≤ℤ-reflexive, negℤ-anti, +ℤ-mono, pos-mono, pos-reflects, natural}
+use Rattle.rational.proofs.Quotient.{quotient-shift, quotient-least}
+use Rattle.rational.proofs.Divisible.{divisible-shift}
+use Rattle.bernstein.specs.Affine.{affine, affineExact}
+use Rattle.curve.specs.declared.affine.Weights.{Weights}
+use Rattle.curve.specs.Limits.{maxDen}
+use Rattle.curve.specs.Inner.{Side, Part, Weighed, scale, turnsOf}
+use Rattle.curve.proofs.Sides.{within-fits}
+use Rattle.curve.proofs.Estimate.{estimate-low, estimate-high}
+
+-- ---- the estimate
+
+module _ (by : ℕ) (w : Weights) (far : by ≤ 33554432 + w .lift) (h : Weighed w) where
+  abbrev pub near : ℕ
+  near = by * w .part / scale
+
+  part-small : w .part ≤ scale + 1023
+  part-small =
+      let factor : w .t * scale ≤ w .den * scale = mul-le-mul {n₁ = w .t} {m₁ = scale} {n₂ = w .den} (h .factor .most) (omega arith) in
+      let most = h .part .most in
+      let both : w .part * w .den ≤ (scale + 1023) * w .den = omega arith in
+      le-of-mul-le-mul-right both (h .factor .positive)
+
+  pub by-small : by ≤ 67174399
+  by-small = let low = h .low in omega arith
+
+  -- the two products fit 64 bits
+  pub part-product : by * w .part ≤ 67174399 * (scale + 1023)
+  part-product = mul-le-mul {n₁ = by} {m₁ = w .part} {n₂ = 67174399} by-small part-small
+
+  pub factor-product : by * w .t ≤ 67174399 * maxDen
+  factor-product =
+      let small = h .factor .small in
+      let most = h .factor .most in
+      mul-le-mul {n₁ = by} {m₁ = w .t} {n₂ = 67174399} {m₂ = maxDen} by-small (omega arith)
+
+  pub near-low : by * w .t < near * w .den + w .den
+  near-low = estimate-low scale (w .den) (w .t) (w .part) 1023 by (omega arith) (h .factor .positive) (h .part .least) (h .part .most) (let s = by-small in omega arith)
+
+  pub near-high : near * w .den < by * w .t + w .den
+  near-high = estimate-high scale (w .den) (w .t) (w .part) 1023 by (omega arith) (h .factor .positive) (h .part .least) (h .part .most) (let s = by-small in omega arith)
+
+  -- the estimate is at most the distance
+  pub near-small : near ≤ 67174399
+  near-small =
+      let most : by * w .t ≤ by * w .den = mul-le-mul-left by (h .factor .most) in
+      let high = near-high in
+      let less : near * w .den < (by + 1) * w .den = omega arith in
+      let s = by-small in
+      let l : near < by + 1 = lt-of-mul-lt-mul-right (w .den) less in
+      omega arith
+
+-- ---- the distance
+
+-- from a to b, with the lift
+pub record Distance (a b : ℤ) (lift : ℕ) : Type 0 where
+  pub by : ℕ
+  pub is : b -ℤ a +ℤ pos lift ≡ pos by
+  pub far : by ≤ 33554432 + lift
+
+module _ {a b : ℤ} (ha : Side a) (hb : Side b) where
+  below : negsuc 33554431 ≤ℤ (b -ℤ a)
+  below = +ℤ-mono (hb .from) (negℤ-anti (ha .to))
+
+  above : (b -ℤ a) ≤ℤ pos 33554432
+  above = +ℤ-mono (hb .to) (negℤ-anti (ha .from))
+
+  pub difference-fits : SFits w32 (b -ℤ a)
+  difference-fits = within-fits 33554431 (b -ℤ a) (omega arith) below above
+
+  pub distance : (lift : ℕ) → 33554432 ≤ lift → Distance a b lift
+  distance lift high =
+      let (by, is) = natural (+ℤ-mono below (pos-mono high)) in
+      record { by = by; is = is; far = pos-reflects (≤ℤ-trans (≤ℤ-reflexive (sym is)) (+ℤ-mono above (≤ℤ-reflexive refl))) }
+
+-- ---- the map
+
+-- the map as a distance and a start
+whole-sum :
+    (s t a b by lift start back : ℤ) → by +ℤ a ≡ b +ℤ lift → start +ℤ back ≡ a → lift *ℤ t ≡ back *ℤ (s +ℤ t) →
+    s *ℤ a +ℤ t *ℤ b ≡ by *ℤ t +ℤ start *ℤ (s +ℤ t)
+whole-sum s t a b by lift start back rise from level =
+    add-right-cancel (s *ℤ a +ℤ t *ℤ b) (by *ℤ t +ℤ start *ℤ (s +ℤ t)) (lift *ℤ t)
+    (first s t a b lift
+    ∙ ap (λ (x : ℤ). s *ℤ a +ℤ t *ℤ x) (sym rise)
+    ∙ second s t a by
+    ∙ ap (λ (x : ℤ). by *ℤ t +ℤ x *ℤ (s +ℤ t)) (sym from)
+    ∙ third by t start back (s +ℤ t)
+    ∙ ap (λ (x : ℤ). by *ℤ t +ℤ start *ℤ (s +ℤ t) +ℤ x) (sym level))
+  where
+    first : (s t a b l : ℤ) → s *ℤ a +ℤ t *ℤ b +ℤ l *ℤ t ≡ s *ℤ a +ℤ t *ℤ (b +ℤ l)
+    first s t a b l = simp integer-ring
+
+    second : (s t a f : ℤ) → s *ℤ a +ℤ t *ℤ (f +ℤ a) ≡ f *ℤ t +ℤ a *ℤ (s +ℤ t)
+    second s t a f = simp integer-ring
+
+    third : (f t u v d : ℤ) → f *ℤ t +ℤ (u +ℤ v) *ℤ d ≡ f *ℤ t +ℤ u *ℤ d +ℤ v *ℤ d
+    third f t u v d = simp integer-ring
+
+-- a difference added back
+added-back : (a k l : ℤ) → a -ℤ k +ℤ l +ℤ k ≡ a +ℤ l
+added-back a k l = regroup a (negℤ k) l k ∙ +ℤ-negℤ-cancel (a +ℤ l) k
+  where
+    regroup : (a n l k : ℤ) → a +ℤ n +ℤ l +ℤ k ≡ a +ℤ l +ℤ k +ℤ n
+    regroup a n l k = simp (+ℤ-assoc, +ℤ-comm, add-left-comm)
+
+module _ {a b : ℤ} (w : Weights) (h : Weighed w) (d : Distance a b (w .lift)) (s : ℕ) (total : s + w .t ≡ w .den) where
+  counted : pos s *ℤ a +ℤ pos (w .t) *ℤ b ≡ pos (d .by * w .t) +ℤ (a -ℤ pos (w .back)) *ℤ pos (w .den)
+  counted =
+      whole-sum (pos s) (pos (w .t)) a b (pos (d .by)) (pos (w .lift)) (a -ℤ pos (w .back)) (pos (w .back))
+      (ap (λ (x : ℤ). x +ℤ a) (sym (d .is)) ∙ added-back b a (pos (w .lift)))
+      (ap (λ (x : ℤ). x +ℤ pos (w .back)) (sym (+ℤ-idr (a -ℤ pos (w .back)))) ∙ added-back a (pos (w .back)) (pos 0) ∙ +ℤ-idr a)
+      (pos-*ℤ-pos (w .lift) (w .t)
+      ∙ ap pos (h .level)
+      ∙ sym (pos-*ℤ-pos (w .back) (w .den))
+      ∙ ap (λ (x : ℤ). pos (w .back) *ℤ x) (ap pos (sym total) ∙ sym (pos-+ℤ-pos s (w .t))))
+      ∙ ap₂ (λ (x y : ℤ). x +ℤ (a -ℤ pos (w .back)) *ℤ y) (pos-*ℤ-pos (d .by) (w .t)) (pos-+ℤ-pos s (w .t) ∙ ap pos total)
+
+  -- the quotient of the distance, from the start on, is the map's
+  pub reached : (r : Rounding) → (a -ℤ pos (w .back)) +ℤ quotient r (pos (d .by * w .t)) (w .den) ≡ affine r s (w .t) (w .den) a b
+  unfolding affine
+  reached r =
+      +ℤ-comm (a -ℤ pos (w .back)) (quotient r (pos (d .by * w .t)) (w .den))
+      ∙ sym (ap (λ (x : ℤ). quotient r x (w .den)) counted ∙ quotient-shift (w .den) (h .factor .positive) r (pos (d .by * w .t)) (a -ℤ pos (w .back)))
+
+  -- and leaves a remainder where the map's does
+  pub left-none : divisible (pos (d .by * w .t)) (w .den) ≡ affineExact s (w .t) (w .den) a b
+  unfolding affineExact
+  left-none = sym (ap (λ (x : ℤ). divisible x (w .den)) counted ∙ divisible-shift (w .den) (pos (d .by * w .t)) (a -ℤ pos (w .back)))
+
+-- the quotient is at most the distance
+pub steps-small : (by steps : ℕ) (w : Weights) (r : Rounding) → Weighed w → pos steps ≡ quotient r (pos (by * w .t)) (w .den) → steps ≤ by
+steps-small by steps w r h is =
+    pos-reflects (≤ℤ-trans (≤ℤ-reflexive is) (quotient-least (w .den) (h .factor .positive) r (pos by) (pos (by * w .t)) (pos-mono (mul-le-mul-left by (h .factor .most)))))
+
+-- ---- the start
+
+pub back-most : (w : Weights) → Weighed w → w .back ≤ w .lift
+back-most w h =
+    let level = h .level in
+    let most : w .lift * w .t ≤ w .lift * w .den = mul-le-mul-left (w .lift) (h .factor .most) in
+    let both : w .back * w .den ≤ w .lift * w .den = omega arith in
+    le-of-mul-le-mul-right both (h .factor .positive)
+
+pub start-fits : {a : ℤ} → Side a → (w : Weights) → Weighed w → SFits w32 (a -ℤ pos (w .back))
+start-fits {a} ha w h =
+    let most = back-most w h in
+    let low = h .low in
+    let small : w .back ≤ 33619967 = omega arith in
+    within-fits 50397182 (a -ℤ pos (w .back)) (omega arith) (+ℤ-mono (ha .from) (negℤ-anti (pos-mono small)))
+    (≤ℤ-trans (+ℤ-mono (ha .to) (negℤ-anti (pos-mono {m = 0} {n = w .back} (omega arith)))) (pos-mono {m = 16777216} {n = 50397183} (omega arith)))
+
+-- ---- the weights
+
+pub turns-enough : (d : ℕ) → 0 < d → (33554432 ≤ turnsOf d * d) × (turnsOf d * d ≤ 33554431 + d)
+turns-enough d positive = let high = lt-div-mul-add {a = 33554431 + d} positive in (omega arith, div-mul-le-self (33554431 + d) d)
+
+-- one division makes a factor's part, and one the part of 1, from which small factors' parts are multiplied
+pub part-at : (t d : ℕ) → 0 < d → Part t d ((t * scale + d - 1) / d)
+part-at t d positive =
+    let low = div-mul-le-self (t * scale + d - 1) d in
+    let high = lt-div-mul-add {a = t * scale + d - 1} positive in
+    record { least = omega arith; most = omega arith }
+
+pub part-times : (t d : ℕ) → 0 < d → t ≤ 1023 → Part t d (t * ((scale + d - 1) / d))
+part-times t d positive few =
+    let u : ℕ = (scale + d - 1) / d in
+    let low = div-mul-le-self (scale + d - 1) d in
+    let high = lt-div-mul-add {a = scale + d - 1} positive in
+    let least : t * scale ≤ t * (u * d) = mul-le-mul-left t (omega arith) in
+    let most : t * (u * d) ≤ t * (scale + d) = mul-le-mul-left t (omega arith) in
+    let excess : t * d ≤ 1023 * d = mul-le-mul-right d few in
+    record { least = omega arith; most = omega arith }
+
+pub part-fits : (t d : ℕ) → 0 < d → d ≤ 1023 → t ≤ 1023 → t * ((scale + d - 1) / d) < 2 ^ 64
+part-fits t d positive small few =
+    let u : ℕ = (scale + d - 1) / d in
+    let low = div-mul-le-self (scale + d - 1) d in
+    let once : u * 1 ≤ u * d = mul-le-mul-left u positive in
+    let product : t * u ≤ 1023 * (scale + 1022) = mul-le-mul {n₁ = t} {m₁ = u} {n₂ = 1023} {m₂ = scale + 1022} few (omega arith) in
+    omega arith
