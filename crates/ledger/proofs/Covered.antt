@@ -8,10 +8,6 @@ use Rattle.rational.proofs.Rational.{ℚ, rat, rat-add, rat-mul, _+ℚ_, _*ℚ_
 use Rattle.rational.proofs.RationalOrder.{equal-of}
 use Rattle.bernstein.specs.Affine.{exactAffine}
 use Rattle.bernstein.specs.DeCasteljau as DeCasteljau
-use Rattle.bernstein.specs.DeCasteljau.{table}
-use Rattle.bernstein.proofs.Exact.{mix}
-use Rattle.bernstein.proofs.Rationals.{rationals, mean}
-use Rattle.bernstein.proofs.Promises.{exact-table}
 use Rattle.bernstein.proofs.Curve.{curve, bernstein-curve}
 use Rattle.bernstein.proofs.Rounded.{Near}
 use Rattle.curve.specs.declared.Curve.{Curve}
@@ -27,7 +23,7 @@ use Rattle.ledger.specs.Ordinary.{Ordinary, InsideOf, loadAt}
 use Rattle.ledger.specs.Ledger.{Piece, left, right, kept, parameter}
 use Rattle.ledger.specs.Promises.{part, placeOn, Covers, PiecesCover}
 use Rattle.ledger.proofs.Stretch.{Stretch}
-use Rattle.ledger.proofs.Steps.{parameter-ratio, complement-ratio, left-stretch, right-stretch}
+use Rattle.ledger.proofs.Steps.{exact-mean, left-stretch, right-stretch}
 use Rattle.ledger.proofs.Evaluation.{inward, inward-none, bounded-near, near-bounded}
 
 -- an ordinary curve whose control points are those of another, moved as a stretch moves them
@@ -50,15 +46,6 @@ module _
       ∙ stretch .moved (λ i. rat (o .control x i)) (rat u)
       ∙ ap₂ (λ (n : ℕ) (y : ℚ). curve (λ i. rat (o .control x i)) n y) (sym (inside .degrees)) h
       ∙ sym (bernstein-curve (o .degree) (o .control x) place))
-
--- the exact table at a parameter, as rational numbers
-exact-mean :
-    (num den : ℕ) (f : Factors (den - num) num den) (p : ℕ → Frac) (j k : ℕ) →
-    rat (table (exactAffine (parameter num den)) p j k) ≡ table (mean den (f .positive) (den - num) num) (λ i. rat (p i)) j k
-unfolding mean
-exact-mean num den f p j k =
-    exact-table (parameter num den) p j k
-    ∙ ap₂ (λ (s t : ℚ). table (mix rationals s t) (λ i. rat (p i)) j k) (complement-ratio num den f) (parameter-ratio num den f)
 
 module _ (c : Curve) (accepted : Accepted c) (o : Ordinary) (inside : InsideOf o c) (num den : ℕ) (at : AcceptedAt num den) where
   abbrev t : Frac

@@ -4,3 +4,4 @@ pub mod Steps
 pub mod Evaluation
 pub mod Demand
 pub mod Covered
+pub mod Lit

@@ -5,12 +5,16 @@ use Prim.Native.Nat.{ℕ, suc, pred, _+_, _*_, _-_, _≤_, _<_}
 use native.Mathlib.Numerals.{add-one}
 use native.Mathlib.Omega.{arith}
 use lib.IntN.{ℤ, pos, _*ℤ_}
-use Rattle.rational.specs.Fraction.{complement}
-use Rattle.rational.proofs.Rational.{rat, embed, _+ℚ_, _-ℚ_, _*ℚ_, zero-+ℚ, one-*ℚ, *ℚ-comm, +ℚ-cancel, rat-complement}
+use Rattle.rational.specs.Fraction.{Frac, complement}
+use Rattle.rational.proofs.Rational.{ℚ, rat, embed, _+ℚ_, _-ℚ_, _*ℚ_, zero-+ℚ, one-*ℚ, *ℚ-comm, +ℚ-cancel, rat-complement}
 use Rattle.rational.proofs.Division.{ratio, ratio-weights, ratio-equal, rat-ratio}
-use Rattle.bernstein.specs.DeCasteljau.{left, right}
+use Rattle.bernstein.specs.Affine.{exactAffine}
+use Rattle.bernstein.specs.DeCasteljau.{table, left, right}
+use Rattle.bernstein.proofs.Table.{table-image}
 use Rattle.bernstein.proofs.Elevate.{elevate}
-use Rattle.bernstein.proofs.Rationals.{mean}
+use Rattle.bernstein.proofs.Exact.{mix}
+use Rattle.bernstein.proofs.Rationals.{rationals, mean}
+use Rattle.bernstein.proofs.Promises.{exact-affine}
 use Rattle.bernstein.proofs.Curve.{curve, left-curve, right-curve, elevate-curve}
 use Rattle.bernstein.proofs.Rounded.{Near, error, left-near, right-near, elevate-near}
 use Rattle.curve.specs.declared.Curve.{Curve}
@@ -38,6 +42,17 @@ module _ (num den : ℕ) (f : Factors (den - num) num den) where
   complement-ratio =
       rat-complement (parameter num den) ∙ ap (λ x. embed (pos 1) -ℚ x) parameter-ratio ∙
       ap (λ x. x -ℚ ratio den (f .positive) (pos num)) (sym (ratio-weights den (f .positive) (den - num) num (f .total))) ∙ +ℚ-cancel _ _
+
+  -- the exact map and the exact table at it
+  pub exact-map : (a b : Frac) → rat (exactAffine (parameter num den) a b) ≡ mean den (f .positive) (den - num) num (rat a) (rat b)
+  unfolding mean
+  exact-map a b =
+      exact-affine (parameter num den) a b ∙ ap₂ (λ (s t : ℚ). mix rationals s t (rat a) (rat b)) complement-ratio parameter-ratio
+
+  pub exact-mean :
+      (p : ℕ → Frac) (j k : ℕ) →
+      rat (table (exactAffine (parameter num den)) p j k) ≡ table (mean den (f .positive) (den - num) num) (λ i. rat (p i)) j k
+  exact-mean = table-image (exactAffine (parameter num den)) (mean den (f .positive) (den - num) num) rat exact-map
 
 module _ (c : Curve) (accepted : Accepted c) where
   abbrev few : c .degree ≤ maxDegree

@@ -1,14 +1,18 @@
--- What is promised of the pieces of a subdivision: the left one covers the first part of its parent's stretch, the right one the rest.
+-- What is promised of the pieces of a subdivision, that the left one covers the first part of its parent's stretch and the right one the rest; and of a lit exact flag, that every side is the exact one.
 -- Assumes nothing.
-use Prim.Native.Nat.{ℕ}
-use Rattle.rational.specs.Fraction.{Frac, Equal, _+ᶠ_, _*ᶠ_, complement}
+use mathlib.Core.Path.{_≡_}
+use mathlib.Core.Bool.{true}
+use Prim.Native.Nat.{ℕ, _+_, _-_, _≤_}
+use Rattle.rational.specs.Rounding.{Rounding}
+use Rattle.rational.specs.Fraction.{Frac, Equal, _+ᶠ_, _*ᶠ_, whole, complement}
 use Rattle.bernstein.specs.Affine.{exactAffine}
 use Rattle.bernstein.specs.DeCasteljau as DeCasteljau
 use Rattle.curve.specs.declared.Curve.{Curve}
-use Rattle.curve.specs.Rect.{Coordinate}
+use Rattle.curve.specs.Rect.{Coordinate, side}
+use Rattle.curve.specs.Curve.{point}
 use Rattle.curve.specs.Refusals.{Accepted, AcceptedAt}
-use Rattle.curve.specs.Calls.{subdivided}
-use Rattle.ledger.specs.Ordinary.{Ordinary, InsideOf, loadAt}
+use Rattle.curve.specs.Calls.{evaluated, subdivided, elevated}
+use Rattle.ledger.specs.Ordinary.{Ordinary, InsideOf, loadAt, exactSide}
 use Rattle.ledger.specs.Ledger.{Piece, left, right, kept, parameter}
 
 -- the pieces of an ordinary curve subdivided at t, exactly
@@ -32,3 +36,33 @@ abbrev pub PiecesCover : Type 0
 PiecesCover =
     (c : Curve) → Accepted c → (o : Ordinary) → InsideOf o c → (num den : ℕ) → AcceptedAt num den →
     (piece : Piece) → Covers c o num den piece
+
+-- ---- a lit flag, whatever was rounded before: what it says is of the curve that the call was given
+
+-- the low sides or the high sides of a curve, as an ordinary curve
+abbrev pub edge : Rounding → Curve → Ordinary
+edge r c = record { degree = c .degree; control = λ x k. whole (side x r (point c k)) }
+
+-- a lit evaluation's sides are the exact sides at num/den
+abbrev pub ExactLoad : Type 0
+ExactLoad =
+    (c : Curve) (num den : ℕ) → evaluated c num den .exact ≡ true →
+    (x : Coordinate) (r : Rounding) → Equal (whole (side x r (evaluated c num den .load))) (exactSide c x r (parameter num den))
+
+-- a lit subdivision's control points have the sides of the curve that is subdivided exactly
+abbrev pub ExactPieces : Type 0
+ExactPieces =
+    (c : Curve) (num den : ℕ) → subdivided c num den .exact ≡ true →
+    (piece : Piece) (x : Coordinate) (r : Rounding) (k : ℕ) → k ≤ c .degree →
+    Equal (whole (side x r (point (kept piece (subdivided c num den)) k))) (part piece (parameter num den) (edge r c) .control x k)
+
+-- an ordinary curve's control point k at one degree more, exactly: k / (n + 1) of the one before, and (n + 1 − k) / (n + 1) of this one
+abbrev pub raised : Ordinary → Coordinate → ℕ → Frac
+raised o x k = exactAffine (parameter (o .degree + 1 - k) (o .degree + 1)) (o .control x (k - 1)) (o .control x k)
+
+-- a lit elevation's control points have the exact sides
+abbrev pub ExactElevation : Type 0
+ExactElevation =
+    (c : Curve) → elevated c .exact ≡ true →
+    (x : Coordinate) (r : Rounding) (k : ℕ) → k ≤ c .degree + 1 →
+    Equal (whole (side x r (point (elevated c .curve) k))) (raised (edge r c) x k)
