@@ -13,7 +13,7 @@ use Rattle.curve.specs.Refusals.{_orElse_}
 use Rattle.curve.proofs.Refused.{number-passed}
 use Rattle.curve.proofs.Tests.{or-split}
 use Rattle.card_text.proofs.Accepting.{unless-zero}
-use Rattle.foreign.specs.Answer.{maxPlace, placeOf, answerOf, shorter, after, Gives, refusedOf, GivesBoth}
+use Rattle.foreign.specs.Answer.{maxPlace, placeOf, answerOf, shorter, unlessRefused, after, Gives, refusedOf, GivesBoth, GivesNumber, GivesBothNumber}
 use Rattle.foreign.specs.Inner.{Room}
 
 pub place-small : (place : ℕ) → placeOf place ≤ maxPlace
@@ -46,6 +46,11 @@ module _ {A : Type 0} (refused : Refusal) (result out : List A) {needed : ℕ} {
   gives answered given =
       record { answered = answered ∙ ap answerOf whole; given = given ∙ ap (λ (x : Refusal). after x result out) whole }
 
+  pub gives-number : {answer value lent last : ℕ} {ended : List A} → answer ≡ answerOf r → ended ≡ after r result out → last ≡ unlessRefused r value lent →
+      GivesNumber refused result out value lent answer ended last
+  gives-number {value = value} {lent = lent} answered given stored =
+      record { results = gives answered given; number = stored ∙ ap (λ (x : Refusal). unlessRefused x value lent) whole }
+
 -- ---- two results
 
 -- `first` is the refusal with the first list's behind it, and r with the second's too
@@ -56,6 +61,11 @@ module _ {A B : Type 0} (refused : Refusal) (result out : List A) (result′ out
   has-both =
       (λ none. has-room refused result out long tested (parts first result′ out′ long′ tested′ none .0), has-room first result′ out′ long′ tested′)
 
+  both : r ≡ refusedOf refused result out result′ out′
+  both =
+      whole first result′ out′ long′ tested′
+      ∙ ap (λ (x : Refusal). x orElse shorter (length result′) (length out′)) (whole refused result out long tested)
+
   pub gives-both : {answer : ℕ} {ended : List A} {ended′ : List B} → answer ≡ answerOf r → ended ≡ after r result out → ended′ ≡ after r result′ out′ →
       GivesBoth refused result out result′ out′ answer ended ended′
   gives-both answered given given′ =
@@ -64,8 +74,9 @@ module _ {A B : Type 0} (refused : Refusal) (result out : List A) (result′ out
         given = given ∙ ap (λ (x : Refusal). after x result out) both;
         given′ = given′ ∙ ap (λ (x : Refusal). after x result′ out′) both;
       }
-    where
-      both : r ≡ refusedOf refused result out result′ out′
-      both =
-          whole first result′ out′ long′ tested′
-          ∙ ap (λ (x : Refusal). x orElse shorter (length result′) (length out′)) (whole refused result out long tested)
+
+  pub gives-both-number : {answer value lent last : ℕ} {ended : List A} {ended′ : List B} →
+      answer ≡ answerOf r → ended ≡ after r result out → ended′ ≡ after r result′ out′ → last ≡ unlessRefused r value lent →
+      GivesBothNumber refused result out result′ out′ value lent answer ended ended′ last
+  gives-both-number {value = value} {lent = lent} answered given given′ stored =
+      record { results = gives-both answered given given′; number = stored ∙ ap (λ (x : Refusal). unlessRefused x value lent) both }

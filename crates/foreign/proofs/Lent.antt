@@ -1,4 +1,4 @@
--- What a call leaves in a lent list: all of it where the call is refused, and otherwise the result stored in front.
+-- What a call leaves in what is lent to it: all of it where the call is refused, and otherwise the result, in a list stored in front.
 -- Assumes nothing.
 use mathlib.Core.Path.{_≡_, sym, ap, ap₂, _∙_}
 use mathlib.Core.Bool.{Bool, cond}
@@ -11,7 +11,7 @@ use lib.ListN.{length, getD, drop, length-append, length-drop}
 use lib.Seq.{sets, sets-eq, take-at, drop-at, drop-drop, drop-cons}
 use borrow.Author.Tests.{eq-eqb, ne-eqb}
 use Rattle.curve.specs.declared.Refusal.{Refusal}
-use Rattle.foreign.specs.Answer.{after}
+use Rattle.foreign.specs.Answer.{unlessRefused}
 
 module _ {A : Type 0} where
   -- numbers in front of a list
@@ -42,14 +42,14 @@ module _ {A : Type 0} where
   pub front-same : (out : List A) (d : A) → 0 < length out → out ≡ front (getD out 0 d ∷ []) out
   front-same out d some = drop-cons out 0 d some
 
-  module _ (r : Refusal) (result out : List A) where
-    abbrev leftIf : Bool → List A
-    leftIf b = cond b (front result out) out
+module _ {A : Type 0} (r : Refusal) (value lent : A) where
+  abbrev leftIf : Bool → A
+  leftIf b = cond b value lent
 
-    pub all-kept : (r .number ≡ 0 → ⊥) → out ≡ after r result out
-    unfolding after
-    all-kept some = ap leftIf (sym (ne-eqb (r .number) 0 some))
+  pub all-kept : (r .number ≡ 0 → ⊥) → lent ≡ unlessRefused r value lent
+  unfolding unlessRefused
+  all-kept some = ap leftIf (sym (ne-eqb (r .number) 0 some))
 
-    pub in-front : r .number ≡ 0 → front result out ≡ after r result out
-    unfolding after
-    in-front none = ap leftIf (sym (eq-eqb (r .number) 0 none))
+  pub value-stored : r .number ≡ 0 → value ≡ unlessRefused r value lent
+  unfolding unlessRefused
+  value-stored none = ap leftIf (sym (eq-eqb (r .number) 0 none))

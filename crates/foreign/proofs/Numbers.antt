@@ -2,7 +2,7 @@
 -- Assumes nothing.
 use mathlib.Core.Path.{_≡_, refl, sym, ap, _∙_}
 use mathlib.Core.Bool.{Bool, true, false, cond}
-use mathlib.Core.List.{List, _∷_, _++_}
+use mathlib.Core.List.{List, _++_}
 use Prim.Native.Nat.{ℕ, zero, suc, _+_, _*_, _≤_, _<_, _^_}
 use native.Mathlib.Decide.{decLe}
 use native.Mathlib.Numerals.{add-one}
@@ -12,18 +12,18 @@ use lib.IntN.{pos}
 use lib.ListN.{length, length-append}
 use borrow.Author.Tests.{le-leb, lt-leb}
 use mir.Syntax.{w32}
-use mir.Val.{toZ}
+use mir.Val.{boolByte, toZ}
 use mir.ValLaws.{toZ-ofZ}
 use Rattle.curve.specs.declared.Rect.{Rect}
 use Rattle.curve.specs.declared.Curve.{Curve}
 use Rattle.curve.specs.Limits.{maxDegree}
 use Rattle.curve.specs.Curve.{point, pointsOf, zeroCurve}
-use Rattle.curve.proofs.Places.{is-points, points-length, points-at, points-past}
+use Rattle.curve.proofs.Places.{is-points, points-length, points-at}
 use Rattle.card_text.specs.declared.CardRead.{CardRead}
 use Rattle.card_text.specs.Card.{sides}
 use Rattle.card_text.specs.Reading.{numberAt, decoded, cardRefusal, readCard}
 use Rattle.card_text.proofs.Degree.{degree-at-most}
-use Rattle.foreign.specs.Numbers.{sidesTo, curveNumbers}
+use Rattle.foreign.specs.Numbers.{sidesTo, curveNumbers, flagNumber}
 use Rattle.foreign.specs.Inner.{lastPlace}
 
 module _ (P : ℕ → Rect) where
@@ -60,6 +60,11 @@ card-few bytes = go (eqb (cardRefusal bytes .number) 0)
 -- a small number as an i32
 pub as-signed : (n : ℕ) → n < 2 ^ 31 → toZ w32 n ≡ pos n
 as-signed n h = toZ-ofZ w32 (pos n) (record { sfits = omega arith })
+
+-- a flag as a u32
+pub flag-number : (exact : Bool) → boolByte exact ≡ flagNumber exact
+flag-number true = refl
+flag-number false = refl
 
 -- the last place that a curve fills is one of its record
 pub last-small : (n : ℕ) → lastPlace n ≤ maxDegree

@@ -1,4 +1,4 @@
--- What a call from outside answers, and what it leaves in the lists that are lent for its results: the refusal of the call within, then 12.
+-- What a call from outside answers, and what it leaves in the lists and numbers that are lent for its results: the refusal of the call within, then 12.
 -- Assumes nothing.
 use mathlib.Core.Path.{_≡_}
 use mathlib.Core.Bool.{cond}
@@ -28,9 +28,13 @@ answerOf r = r .number + word * placeOf (r .place)
 unfoldable pub shorter : ℕ → ℕ → Refusal
 shorter needed size = unlessAt (leb needed size) 12 needed
 
+-- what is lent for a result, afterwards: the given value where nothing is refused, or kept
+unfoldable pub unlessRefused : {A : Type 0} → Refusal → A → A → A
+unlessRefused r given kept = cond (eqb (r .number) 0) given kept
+
 -- a lent list afterwards: the result in front and what lies past it kept, or all kept when refused
-unfoldable pub after : {A : Type 0} → Refusal → List A → List A → List A
-after r result out = cond (eqb (r .number) 0) (result ++ drop (length result) out) out
+abbrev pub after : {A : Type 0} → Refusal → List A → List A → List A
+after r result out = unlessRefused r (result ++ drop (length result) out) out
 
 -- a call with one result: its answer, and how the lent list ended
 pub record Gives {A : Type 0} (refused : Refusal) (result out : List A) (answer : ℕ) (ended : List A) : Type 0 where
@@ -46,3 +50,12 @@ pub record GivesBoth {A B : Type 0} (refused : Refusal) (result out : List A) (r
   pub answered : answer ≡ answerOf (refusedOf refused result out result′ out′)
   pub given : ended ≡ after (refusedOf refused result out result′ out′) result out
   pub given′ : ended′ ≡ after (refusedOf refused result out result′ out′) result′ out′
+
+-- the same with a number lent besides, in which the call gives a value with the same refusal
+pub record GivesNumber {A : Type 0} (refused : Refusal) (result out : List A) (value lent answer : ℕ) (ended : List A) (last : ℕ) : Type 0 where
+  pub results : Gives refused result out answer ended
+  pub number : last ≡ unlessRefused (refused orElse shorter (length result) (length out)) value lent
+
+pub record GivesBothNumber {A B : Type 0} (refused : Refusal) (result out : List A) (result′ out′ : List B) (value lent answer : ℕ) (ended : List A) (ended′ : List B) (last : ℕ) : Type 0 where
+  pub results : GivesBoth refused result out result′ out′ answer ended ended′
+  pub number : last ≡ unlessRefused (refusedOf refused result out result′ out′) value lent

@@ -1,4 +1,4 @@
--- What each call from outside gives of the answer of the call within: the answer, and the lent lists afterwards.
+-- What each call from outside gives of the answer of the call within: the answer, and the lent lists and numbers afterwards.
 -- Assumes nothing.
 use mathlib.Core.List.{List}
 use Prim.Native.Nat.{ℕ}
@@ -11,19 +11,20 @@ use Rattle.curve.specs.declared.Enclosure.{Enclosure}
 use Rattle.card_text.specs.declared.CardRead.{CardRead}
 use Rattle.card_text.specs.Card.{sides}
 use Rattle.search.specs.declared.SearchAnswer.{SearchAnswer}
-use Rattle.foreign.specs.Numbers.{curveNumbers, ohmNumbers, verdictNumbers}
-use Rattle.foreign.specs.Answer.{Gives, GivesBoth}
+use Rattle.foreign.specs.Numbers.{curveNumbers, ohmNumbers, flagNumber, verdictNumbers}
+use Rattle.foreign.specs.Answer.{Gives, GivesNumber, GivesBothNumber}
 
--- the load, and its ohms
-abbrev pub GivesEvaluation : Evaluation → List ℤ → List Float → ℕ → List ℤ → List Float → Type 0
-GivesEvaluation e load ohms = GivesBoth (e .refusal) (sides (e .load)) load (ohmNumbers (e .ohms)) ohms
+-- the load, its ohms, and the exact flag
+abbrev pub GivesEvaluation : Evaluation → List ℤ → List Float → ℕ → ℕ → List ℤ → List Float → ℕ → Type 0
+GivesEvaluation e load ohms = GivesBothNumber (e .refusal) (sides (e .load)) load (ohmNumbers (e .ohms)) ohms (flagNumber (e .exact))
 
--- the left piece, and the right one
-abbrev pub GivesSubdivision : Subdivision → List ℤ → List ℤ → ℕ → List ℤ → List ℤ → Type 0
-GivesSubdivision s left right = GivesBoth (s .refusal) (curveNumbers (s .left)) left (curveNumbers (s .right)) right
+-- the left piece, the right one, and the exact flag
+abbrev pub GivesSubdivision : Subdivision → List ℤ → List ℤ → ℕ → ℕ → List ℤ → List ℤ → ℕ → Type 0
+GivesSubdivision s left right = GivesBothNumber (s .refusal) (curveNumbers (s .left)) left (curveNumbers (s .right)) right (flagNumber (s .exact))
 
-abbrev pub GivesElevation : Elevation → List ℤ → ℕ → List ℤ → Type 0
-GivesElevation e = Gives (e .refusal) (curveNumbers (e .curve))
+-- the curve, and the exact flag
+abbrev pub GivesElevation : Elevation → List ℤ → ℕ → ℕ → List ℤ → ℕ → Type 0
+GivesElevation e raised = GivesNumber (e .refusal) (curveNumbers (e .curve)) raised (flagNumber (e .exact))
 
 abbrev pub GivesEnclosure : Enclosure → List ℤ → ℕ → List ℤ → Type 0
 GivesEnclosure e = Gives (e .refusal) (sides (e .rect))

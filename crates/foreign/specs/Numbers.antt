@@ -1,5 +1,6 @@
 -- Curves, rectangles and results as lists of numbers, as a caller outside lends them.
 -- Assumes nothing.
+use mathlib.Core.Bool.{Bool, cond}
 use mathlib.Core.List.{List, [], _∷_, _++_}
 use Prim.Native.Nat.{ℕ, zero, suc, _+_, _*_}
 use lib.IntN.{ℤ, pos}
@@ -45,6 +46,10 @@ curveNumbers c = pos (c .degree) ∷ sidesTo (c .degree + 1) (point c)
 -- a load in ohms
 abbrev pub ohmNumbers : Ohms → List Float
 ohmNumbers o = o .rlow ∷ o .rhigh ∷ o .xlow ∷ o .xhigh ∷ []
+
+-- an exact flag (the paper's lamp): 1 where it is lit, 0 where it is dark
+abbrev pub flagNumber : Bool → ℕ
+flagNumber exact = cond exact 1 0
 
 -- a verdict: which of the four, the depth and the index of the piece that it names, and the count
 abbrev pub reportNumbers : Report → List ℕ

@@ -28,11 +28,12 @@ use results::RECT_LENGTH;
 use results::VERDICT_LENGTH;
 use results::curve_length;
 use results::put_curve;
+use results::put_exact;
 use results::put_ohms;
 use results::put_rect;
 use results::put_verdict;
 
-// The load at num/den and its ohms; refusals 1 to 5 and 12.
+// The load at num/den, its ohms, and whether nothing was rounded; refusals 1 to 5 and 12.
 #[no_mangle]
 pub extern "C" fn jusqani_evaluate(
     degree: u32,
@@ -41,18 +42,20 @@ pub extern "C" fn jusqani_evaluate(
     den: u32,
     load: &mut [i32],
     ohms: &mut [f32],
+    exact: &mut u32,
 ) -> u64
-    ensures { λ r. ⌜ GivesEvaluation (evaluated (curveFrom degree (now (sides .entry))) num den) (now (load .entry)) (now (ohms .entry)) r (now (load .exit)) (now (ohms .exit)) ⌝ }
+    ensures { λ r. ⌜ GivesEvaluation (evaluated (curveFrom degree (now (sides .entry))) num den) (now (load .entry)) (now (ohms .entry)) (now (exact .entry)) r (now (load .exit)) (now (ohms .exit)) (now (exact .exit)) ⌝ }
 {
     let answer = curve::evaluate(curve_from(degree, sides), num, den);
     let first = with_room(answer.refusal, RECT_LENGTH, load.len());
     let refusal = with_room(first, RECT_LENGTH, ohms.len());
     put_rect(load, refusal, answer.load);
     put_ohms(ohms, refusal, answer.ohms);
+    put_exact(exact, refusal, answer.exact);
     answer_of(refusal)
 }
 
-// The two pieces at num/den; refusals 1 to 5 and 12.
+// The two pieces at num/den, and whether nothing was rounded; refusals 1 to 5 and 12.
 #[no_mangle]
 pub extern "C" fn jusqani_subdivide(
     degree: u32,
@@ -61,8 +64,9 @@ pub extern "C" fn jusqani_subdivide(
     den: u32,
     left: &mut [i32],
     right: &mut [i32],
+    exact: &mut u32,
 ) -> u64
-    ensures { λ r. ⌜ GivesSubdivision (subdivided (curveFrom degree (now (sides .entry))) num den) (now (left .entry)) (now (right .entry)) r (now (left .exit)) (now (right .exit)) ⌝ }
+    ensures { λ r. ⌜ GivesSubdivision (subdivided (curveFrom degree (now (sides .entry))) num den) (now (left .entry)) (now (right .entry)) (now (exact .entry)) r (now (left .exit)) (now (right .exit)) (now (exact .exit)) ⌝ }
 {
     let answer = curve::subdivide(curve_from(degree, sides), num, den);
     let start = answer.left;
@@ -71,18 +75,25 @@ pub extern "C" fn jusqani_subdivide(
     let refusal = with_room(first, curve_length(rest.degree), right.len());
     put_curve(left, refusal, start);
     put_curve(right, refusal, rest);
+    put_exact(exact, refusal, answer.exact);
     answer_of(refusal)
 }
 
-// The curve with its degree raised by one; refusals 1 to 3, 6 and 12.
+// The curve with its degree raised by one, and whether nothing was rounded; refusals 1 to 3, 6 and 12.
 #[no_mangle]
-pub extern "C" fn jusqani_elevate(degree: u32, sides: &[i32], raised: &mut [i32]) -> u64
-    ensures { λ r. ⌜ GivesElevation (elevated (curveFrom degree (now (sides .entry)))) (now (raised .entry)) r (now (raised .exit)) ⌝ }
+pub extern "C" fn jusqani_elevate(
+    degree: u32,
+    sides: &[i32],
+    raised: &mut [i32],
+    exact: &mut u32,
+) -> u64
+    ensures { λ r. ⌜ GivesElevation (elevated (curveFrom degree (now (sides .entry)))) (now (raised .entry)) (now (exact .entry)) r (now (raised .exit)) (now (exact .exit)) ⌝ }
 {
     let answer = curve::elevate(curve_from(degree, sides));
     let curve = answer.curve;
     let refusal = with_room(answer.refusal, curve_length(curve.degree), raised.len());
     put_curve(raised, refusal, curve);
+    put_exact(exact, refusal, answer.exact);
     answer_of(refusal)
 }
 

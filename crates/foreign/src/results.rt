@@ -1,4 +1,4 @@
-// Results stored in front of the slices that a caller lends for them. A refused call stores nothing.
+// Results stored in what a caller lends for them: in front of slices, and a flag in a number. A refused call stores nothing.
 ghost use mathlib.Core.Path.{_≡_};
 ghost use mathlib.Core.List.{_++_};
 ghost use Prim.Native.Nat.{_+_, _*_, _≤_};
@@ -6,8 +6,8 @@ ghost use lib.ListN.{length, drop};
 ghost use lib.Seq.{sets};
 ghost use Rattle.curve.specs.Limits.{maxDegree};
 ghost use Rattle.card_text.specs.Card.{sides};
-ghost use Rattle.foreign.specs.Numbers.{curveNumbers, ohmNumbers, verdictNumbers};
-ghost use Rattle.foreign.specs.Answer.{after};
+ghost use Rattle.foreign.specs.Numbers.{curveNumbers, ohmNumbers, flagNumber, verdictNumbers};
+ghost use Rattle.foreign.specs.Answer.{unlessRefused, after};
 ghost use Rattle.foreign.specs.Inner.{Room};
 use curve::Curve;
 use curve::Ohms;
@@ -95,6 +95,16 @@ pub fn put_ohms(out: &mut [f32], refusal: Refusal, o: Ohms)
     out[1] = o.rhigh;
     out[2] = o.xlow;
     out[3] = o.xhigh;
+}
+
+// Gives a flag as a number, 1 or 0, unless the call is refused.
+pub fn put_exact(out: &mut u32, refusal: Refusal, exact: bool)
+    ensures { λ _. ⌜ now (out .exit) ≡ unlessRefused refusal (flagNumber exact) (now (out .entry)) ⌝ }
+{
+    if refusal.number != 0 {
+        return;
+    }
+    *out = exact as u32;
 }
 
 // A verdict's number, depth, index and count.

@@ -1,4 +1,4 @@
--- `jusqani_elevate` meets its contract: the curve within, elevated.
+-- `jusqani_elevate` meets its contract: the curve within, elevated, and its flag.
 -- Assumes nothing.
 use mathlib.Core.Path.{sym, ap, _∙_, subst}
 use Prim.Native.Nat.{_≤_}
@@ -9,7 +9,7 @@ use Rattle.curve.specs.Calls.{elevated}
 use Rattle.curve.proofs.Ranges.{elevated-ranged}
 use Rattle.foreign.specs.Numbers.{curveNumbers}
 use Rattle.foreign.specs.Calls.{GivesElevation}
-use Rattle.foreign.proofs.Answer.{has-room, gives}
+use Rattle.foreign.proofs.Answer.{has-room, gives-number}
 use Rattle.foreign.proofs.Numbers.{length-by-degree}
 use Rattle.foreign.proofs.jusqani_elevate.Statement.{statement}
 use Rattle.foreign.proofs.jusqani_elevate.Tie as tie
@@ -25,13 +25,16 @@ put-curve-requires c κs =
 
 returns : tie.Need-returns
 returns c =
-    let p = c .before .before in
+    let e = c .before in
+    let p = e .before .before .before in
     let f = p .before .before in
     let v = f .before .before .before in
     let x = v .elevate .result in
-    let out = v .before .before .args .raised .now in
-    subst (λ (e : Elevation). GivesElevation e out (c .answer-of .result) (p .put-curve .last .0)) (v .elevate .ensures ∙ ap elevated (v .before .curve-from .ensures))
-    (gives (x .refusal) (curveNumbers (x .curve)) out (length-by-degree (x .curve) (f .before .curve-length .ensures)) (f .with-room .ensures) (c .answer-of .ensures) (p .put-curve .ensures))
+    let a = v .before .before .args in
+    subst (λ (y : Elevation). GivesElevation y (a .raised .now) (a .exact .now) (c .answer-of .result) (p .put-curve .last .0) (e .put-exact .last .0))
+    (v .elevate .ensures ∙ ap elevated (v .before .curve-from .ensures))
+    (gives-number (x .refusal) (curveNumbers (x .curve)) (a .raised .now) (length-by-degree (x .curve) (f .before .curve-length .ensures)) (f .with-room .ensures)
+    (c .answer-of .ensures) (p .put-curve .ensures) (e .put-exact .ensures))
 
 pub jusqani-elevate-spec : {M : Type 1} → statement M
 jusqani-elevate-spec =
@@ -42,6 +45,7 @@ jusqani-elevate-spec =
     (λ c κs. search needs)
     (λ c κs. search needs)
     put-curve-requires
+    (λ c κs. search needs)
     (λ c κs. search needs)
     (λ c. search needs)
     returns)

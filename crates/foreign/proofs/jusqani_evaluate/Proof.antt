@@ -1,4 +1,4 @@
--- `jusqani_evaluate` meets its contract: the load of the curve within, and its ohms.
+-- `jusqani_evaluate` meets its contract: the load of the curve within, its ohms, and its flag.
 -- Assumes nothing.
 use mathlib.Core.Path.{refl, ap, _∙_, subst}
 use borrow.Author.Needs.{needs}
@@ -9,7 +9,7 @@ use Rattle.card_text.specs.Card.{sides}
 use Rattle.foreign.specs.Numbers.{ohmNumbers}
 use Rattle.foreign.specs.Inner.{Room}
 use Rattle.foreign.specs.Calls.{GivesEvaluation}
-use Rattle.foreign.proofs.Answer.{has-both, gives-both}
+use Rattle.foreign.proofs.Answer.{has-both, gives-both-number}
 use Rattle.foreign.proofs.jusqani_evaluate.Statement.{statement}
 use Rattle.foreign.proofs.jusqani_evaluate.Tie as tie
 
@@ -24,16 +24,17 @@ rooms f =
 
 returns : tie.Need-returns
 returns c =
-    let o = c .before .before .before in
+    let q = c .before in
+    let o = q .before .before .before .before in
     let l = o .before .before .before in
     let f = l .before .before in
     let v = f .before .before in
     let e = v .evaluate .result in
     let a = v .before .before .before .args in
-    subst (λ (x : Evaluation). GivesEvaluation x (a .load .now) (a .ohms .now) (c .answer-of .result) (l .put-rect .last .0) (o .put-ohms .last .0))
+    subst (λ (x : Evaluation). GivesEvaluation x (a .load .now) (a .ohms .now) (a .exact .now) (c .answer-of .result) (l .put-rect .last .0) (o .put-ohms .last .0) (q .put-exact .last .0))
     (v .evaluate .ensures ∙ ap (λ (x : Curve). evaluated x (a .num) (a .den)) (v .before .curve-from .ensures))
-    (gives-both (e .refusal) (sides (e .load)) (a .load .now) (ohmNumbers (e .ohms)) (a .ohms .now) refl refl (f .before .with-room .ensures) (f .with-room2 .ensures)
-    (c .answer-of .ensures) (l .put-rect .ensures) (o .put-ohms .ensures))
+    (gives-both-number (e .refusal) (sides (e .load)) (a .load .now) (ohmNumbers (e .ohms)) (a .ohms .now) refl refl (f .before .with-room .ensures) (f .with-room2 .ensures)
+    (c .answer-of .ensures) (l .put-rect .ensures) (o .put-ohms .ensures) (q .put-exact .ensures))
 
 pub jusqani-evaluate-spec : {M : Type 1} → statement M
 jusqani-evaluate-spec =
@@ -45,6 +46,7 @@ jusqani-evaluate-spec =
     (λ c κs. search needs)
     (λ c κs. rooms (c .before) .0)
     (λ c κs. rooms (c .before .before .before .before) .1)
+    (λ c κs. search needs)
     (λ c κs. search needs)
     (λ c. search needs)
     (λ c. search needs)

@@ -1,4 +1,4 @@
--- `jusqani_subdivide` meets its contract: the two pieces of the curve within.
+-- `jusqani_subdivide` meets its contract: the two pieces of the curve within, and their flag.
 -- Assumes nothing.
 use mathlib.Core.Path.{_≡_, ap, _∙_, subst}
 use Prim.Native.Nat.{_≤_}
@@ -12,7 +12,7 @@ use Rattle.curve.proofs.Ranges.{pieces-ranged}
 use Rattle.foreign.specs.Numbers.{curveNumbers}
 use Rattle.foreign.specs.Inner.{Room}
 use Rattle.foreign.specs.Calls.{GivesSubdivision}
-use Rattle.foreign.proofs.Answer.{has-both, gives-both}
+use Rattle.foreign.proofs.Answer.{has-both, gives-both-number}
 use Rattle.foreign.proofs.Numbers.{length-by-degree}
 use Rattle.foreign.proofs.jusqani_subdivide.Statement.{statement}
 use Rattle.foreign.proofs.jusqani_subdivide.Tie as tie
@@ -45,16 +45,17 @@ rooms f =
 
 returns : tie.Need-returns
 returns c =
-    let q = c .before .before in
+    let e = c .before in
+    let q = e .before .before .before in
     let p = q .before .before .before in
     let f = p .before .before in
     let v = within f in
     let x = v .subdivide .result in
     let a = v .before .before .args in
-    subst (λ (s : Subdivision). GivesSubdivision s (a .left .now) (a .right .now) (c .answer-of .result) (p .put-curve .last .0) (q .put-curve2 .last .0))
+    subst (λ (s : Subdivision). GivesSubdivision s (a .left .now) (a .right .now) (a .exact .now) (c .answer-of .result) (p .put-curve .last .0) (q .put-curve2 .last .0) (e .put-exact .last .0))
     (v .subdivide .ensures ∙ ap (λ (z : Curve). subdivided z (a .num) (a .den)) (v .before .curve-from .ensures))
-    (gives-both (x .refusal) (curveNumbers (x .left)) (a .left .now) (curveNumbers (x .right)) (a .right .now) (left-long f) (right-long f) (f .before .before .with-room .ensures) (f .with-room2 .ensures)
-    (c .answer-of .ensures) (p .put-curve .ensures) (q .put-curve2 .ensures))
+    (gives-both-number (x .refusal) (curveNumbers (x .left)) (a .left .now) (curveNumbers (x .right)) (a .right .now) (left-long f) (right-long f) (f .before .before .with-room .ensures) (f .with-room2 .ensures)
+    (c .answer-of .ensures) (p .put-curve .ensures) (q .put-curve2 .ensures) (e .put-exact .ensures))
 
 pub jusqani-subdivide-spec : {M : Type 1} → statement M
 jusqani-subdivide-spec =
@@ -68,6 +69,7 @@ jusqani-subdivide-spec =
     (λ c κs. search needs)
     (λ c κs. (few (within (c .before)) .0, rooms (c .before) .0))
     (λ c κs. let f = c .before .before .before .before in (few (within f) .1, rooms f .1))
+    (λ c κs. search needs)
     (λ c κs. search needs)
     (λ c. search needs)
     (λ c. search needs)

@@ -2,13 +2,12 @@
 -- Assumes nothing.
 use mathlib.Core.Path.{_∙_}
 use borrow.Author.Needs.{needs}
-use Rattle.foreign.specs.Numbers.{curveNumbers}
-use Rattle.foreign.proofs.Lent.{all-kept, in-front}
+use Rattle.foreign.proofs.Lent.{all-kept, value-stored}
 use Rattle.foreign.proofs.results.put_curve.Statement.{statement}
 use Rattle.foreign.proofs.results.put_curve.Tie as tie
 
 returns : tie.Need-returns
-returns c = let a = c .before .before .args in all-kept (a .refusal) (curveNumbers (a .c)) (a .out .now) (c .if1 .taken)
+returns c = all-kept _ _ _ (c .if1 .taken)
 
 store-curve-requires : tie.Need-store-curve-requires
 store-curve-requires c κs =
@@ -17,10 +16,7 @@ store-curve-requires c κs =
     (p .0, p .1 (e .if1 .left))
 
 returns-2 : tie.Need-returns-2
-returns-2 c =
-    let e = c .before .before .before in
-    let a = e .before .before .args in
-    c .before .store-curve .ensures ∙ in-front (a .refusal) (curveNumbers (a .c)) (a .out .now) (e .if1 .left)
+returns-2 c = c .before .store-curve .ensures ∙ value-stored _ _ _ (c .before .before .before .if1 .left)
 
 pub put-curve-spec : {M : Type 1} → statement M
 put-curve-spec = tie.close (tie.spec returns store-curve-requires (λ c. search needs) returns-2)

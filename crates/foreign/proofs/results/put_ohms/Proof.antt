@@ -5,12 +5,12 @@ use native.Mathlib.Omega.{arith}
 use borrow.Author.Needs.{needs}
 use lib.ListN.{length-set}
 use Rattle.foreign.specs.Numbers.{ohmNumbers}
-use Rattle.foreign.proofs.Lent.{front-first, all-kept, in-front}
+use Rattle.foreign.proofs.Lent.{front-first, all-kept, value-stored}
 use Rattle.foreign.proofs.results.put_ohms.Statement.{statement}
 use Rattle.foreign.proofs.results.put_ohms.Tie as tie
 
 returns : tie.Need-returns
-returns c = let a = c .before .before .args in all-kept (a .refusal) (ohmNumbers (a .o)) (a .out .now) (c .if1 .taken)
+returns c = all-kept _ _ _ (c .if1 .taken)
 
 slice-write-out : tie.Need-slice-write-out
 slice-write-out c = let room = c .before .before .pre (c .if1 .left) in omega arith
@@ -28,8 +28,7 @@ returns-2 : tie.Need-returns-2
 returns-2 c =
     let s = c .before .before in
     let a = s .args in
-    front-first (ohmNumbers (a .o)) (a .out .now) (s .pre (c .if1 .left))
-    ∙ in-front (a .refusal) (ohmNumbers (a .o)) (a .out .now) (c .if1 .left)
+    front-first (ohmNumbers (a .o)) (a .out .now) (s .pre (c .if1 .left)) ∙ value-stored _ _ _ (c .if1 .left)
 
 pub put-ohms-spec : {M : Type 1} → statement M
 put-ohms-spec =

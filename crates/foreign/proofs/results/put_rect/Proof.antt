@@ -3,12 +3,12 @@
 use mathlib.Core.Path.{_∙_}
 use borrow.Author.Needs.{needs}
 use Rattle.card_text.specs.Card.{sides}
-use Rattle.foreign.proofs.Lent.{front-first, all-kept, in-front}
+use Rattle.foreign.proofs.Lent.{front-first, all-kept, value-stored}
 use Rattle.foreign.proofs.results.put_rect.Statement.{statement}
 use Rattle.foreign.proofs.results.put_rect.Tie as tie
 
 returns : tie.Need-returns
-returns c = let a = c .before .before .args in all-kept (a .refusal) (sides (a .p)) (a .out .now) (c .if1 .taken)
+returns c = all-kept _ _ _ (c .if1 .taken)
 
 store-rect-requires : tie.Need-store-rect-requires
 store-rect-requires c κs = c .before .before .before .pre (c .before .if1 .left)
@@ -20,7 +20,7 @@ returns-2 c =
     let a = s .args in
     c .before .store-rect .ensures
     ∙ front-first (sides (a .p)) (a .out .now) (s .pre (e .if1 .left))
-    ∙ in-front (a .refusal) (sides (a .p)) (a .out .now) (e .if1 .left)
+    ∙ value-stored _ _ _ (e .if1 .left)
 
 pub put-rect-spec : {M : Type 1} → statement M
 put-rect-spec = tie.close (tie.spec returns store-rect-requires (λ c. search needs) returns-2)

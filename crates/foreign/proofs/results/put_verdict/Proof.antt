@@ -1,19 +1,16 @@
 -- `put_verdict` meets its contract: four stores in front, and none where the call is refused.
 -- Assumes nothing.
-use mathlib.Core.Path.{_≡_, ap, _∙_}
-use mathlib.Core.List.{List}
-use Prim.Native.Nat.{ℕ}
+use mathlib.Core.Path.{_∙_}
 use native.Mathlib.Omega.{arith}
 use borrow.Author.Needs.{needs}
 use lib.ListN.{length-set}
-use lib.Seq.{sets}
 use Rattle.foreign.specs.Numbers.{verdictNumbers}
-use Rattle.foreign.proofs.Lent.{front-first, all-kept, in-front}
+use Rattle.foreign.proofs.Lent.{front-first, all-kept, value-stored}
 use Rattle.foreign.proofs.results.put_verdict.Statement.{statement}
 use Rattle.foreign.proofs.results.put_verdict.Tie as tie
 
 returns : tie.Need-returns
-returns c = let a = c .before .before .before .args in all-kept (a .refusal) (verdictNumbers (a .v)) (a .out .now) (c .if1 .taken)
+returns c = all-kept _ _ _ (c .if1 .taken)
 
 slice-write-out : tie.Need-slice-write-out
 slice-write-out c = let e = c .before in let room = e .before .before .before .pre (e .if1 .left) in omega arith
@@ -33,8 +30,7 @@ returns-2 c =
     let s = e .before .before .before in
     let a = s .args in
     rw (c .verdict-numbers .ensures)
-    (front-first (verdictNumbers (a .v)) (a .out .now) (s .pre (e .if1 .left))
-    ∙ in-front (a .refusal) (verdictNumbers (a .v)) (a .out .now) (e .if1 .left))
+    (front-first (verdictNumbers (a .v)) (a .out .now) (s .pre (e .if1 .left)) ∙ value-stored _ _ _ (e .if1 .left))
 
 pub put-verdict-spec : {M : Type 1} → statement M
 put-verdict-spec =
