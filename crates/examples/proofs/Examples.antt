@@ -1,24 +1,24 @@
 -- The list of examples, computed as a whole.
 -- Assumes nothing.
 use mathlib.Core.Path.{refl}
-use Rattle.rational.specs.Rounding.{floor, ceiling, quotient}
+use Rattle.rational.specs.Rounding.{floor, ceiling, quotient, divisible}
 use Rattle.rational.specs.Fraction.{_+ᶠ_, _*ᶠ_, _^ᶠ_, whole, complement}
-use Rattle.bernstein.specs.Affine.{affine}
+use Rattle.bernstein.specs.Affine.{affine, affineExact}
 use Rattle.bernstein.specs.Bernstein.{choose, sumTo, term, bernstein}
-use Rattle.bernstein.specs.DeCasteljau.{table, value, left, right}
+use Rattle.bernstein.specs.DeCasteljau.{allBelow, table, value, left, right, everyMap}
 use Rattle.columns.specs.Column.{digitsBefore, digits, text, column, valueAfter, hasMinus, signed, decode, sameBytes, readBytes, readAt}
 use Rattle.card_text.specs.Reading.{degreeOf, intervalAt, rectAt, decoded, columnRefusal, lineEndRefusal, endsRefusal, rowRefusal, rowsRefusal, shortRefusal, lengthRefusal, headerRefusal, cardRefusal, readCard}
 use Rattle.ledger.specs.Ledger.{parameter}
 use Rattle.search.specs.Box.{within, disjoint, inBox, apartFrom, isBox}
 use Rattle.search.specs.Walk.{stepAt, walked}
 use Rattle.search.specs.Search.{boxRefusal, searchRefusal, searched}
-use Rattle.curve.specs.Rect.{least, greatest, hullInterval, hull, inRange, endsInRange, sidesInRange, endsOrdered, sidesOrdered, affineInterval, affineRect}
-use Rattle.curve.specs.Curve.{tabulate, pointsOf, loadOf, leftOf, rightOf, elevatedPoint, elevatedOf, hullTo, boundsOf}
+use Rattle.curve.specs.Rect.{least, greatest, hullInterval, hull, inRange, endsInRange, sidesInRange, endsOrdered, sidesOrdered, affineInterval, affineRect, exactInterval, exactRect}
+use Rattle.curve.specs.Curve.{tabulate, pointsOf, loadOf, leftOf, rightOf, tableExact, elevatedPoint, elevatedOf, elevatedExact, elevationExact, hullTo, boundsOf}
 use Rattle.curve.specs.Refusals.{firstFailing, rangeRefusal, orderRefusal, curveRefusal, parameterRefusal, highestRefusal}
 use Rattle.curve.specs.Calls.{callRefusal, elevationRefusal, evaluated, subdivided, elevated, bounded}
 use Rattle.examples.specs.Shown.{resistancesFrom, resistancesShown}
-use Rattle.examples.specs.Examples.{cardCurve, exactLoad, examples, Agree}
+use Rattle.examples.specs.Examples.{cardCurve, exactLoad, exactResistance, examples, Agree}
 
 pub agree : Agree
-unfolding floor ceiling quotient _+ᶠ_ _*ᶠ_ _^ᶠ_ whole complement choose sumTo term bernstein parameter exactLoad digitsBefore digits text column valueAfter hasMinus signed decode sameBytes readBytes readAt degreeOf intervalAt rectAt decoded columnRefusal lineEndRefusal endsRefusal rowRefusal rowsRefusal shortRefusal lengthRefusal headerRefusal cardRefusal readCard affine table value left right inRange endsInRange sidesInRange endsOrdered sidesOrdered affineInterval affineRect tabulate pointsOf loadOf leftOf rightOf elevatedPoint elevatedOf firstFailing rangeRefusal orderRefusal curveRefusal parameterRefusal highestRefusal callRefusal elevationRefusal evaluated subdivided elevated bounded resistancesFrom resistancesShown cardCurve examples least greatest hullInterval hull hullTo boundsOf within disjoint inBox apartFrom isBox stepAt walked boxRefusal searchRefusal searched
+unfolding floor ceiling quotient divisible affineExact allBelow everyMap exactInterval exactRect tableExact elevatedExact elevationExact exactResistance _+ᶠ_ _*ᶠ_ _^ᶠ_ whole complement choose sumTo term bernstein parameter exactLoad digitsBefore digits text column valueAfter hasMinus signed decode sameBytes readBytes readAt degreeOf intervalAt rectAt decoded columnRefusal lineEndRefusal endsRefusal rowRefusal rowsRefusal shortRefusal lengthRefusal headerRefusal cardRefusal readCard affine table value left right inRange endsInRange sidesInRange endsOrdered sidesOrdered affineInterval affineRect tabulate pointsOf loadOf leftOf rightOf elevatedPoint elevatedOf firstFailing rangeRefusal orderRefusal curveRefusal parameterRefusal highestRefusal callRefusal elevationRefusal evaluated subdivided elevated bounded resistancesFrom resistancesShown cardCurve examples least greatest hullInterval hull hullTo boundsOf within disjoint inBox apartFrom isBox stepAt walked boxRefusal searchRefusal searched
 agree = refl

@@ -1,4 +1,4 @@
--- Document 01's examples that carry a star: what the definitions answer beside what the document says.
+-- Document 01's examples that carry a star, and those of document 02's requests: what the definitions answer beside what the documents say.
 -- Assumes nothing.
 use mathlib.Core.Path.{_≡_}
 use mathlib.Core.List.{List, [], _∷_, map}
@@ -16,9 +16,9 @@ use Rattle.ledger.specs.Ordinary.{exactSide}
 use Rattle.ledger.specs.Ledger.{parameter}
 use Rattle.search.specs.Verdict.{outside, spent, undecided}
 use Rattle.search.specs.Search.{searched}
-use Rattle.examples.specs.Shown.{values, ends, refusalShown, evaluationShown, resistancesShown, verdictShown, upperOf, timesLower, spaces}
+use Rattle.examples.specs.Shown.{values, line, ends, refusalShown, flagShown, evaluationShown, resistancesShown, verdictShown, upperOf, timesLower, spaces}
 
--- an example: the numbers that a definition answers, and those that the document gives
+-- an example: the numbers that a definition answers, and those that a document gives
 pub record Example : Type 0 where
   pub answer : List ℤ
   pub document : List ℤ
@@ -44,6 +44,13 @@ threeValues = values 2 (pos 1 ∷ pos 0 ∷ pos 3 ∷ [])
 
 unfoldable pub exactLoad : Frac
 exactLoad = exactSide threeValues resistance down (parameter 1 2)
+
+-- resistances 0, 4 and reactances 0, 1, and the exact resistance at 1/2
+abbrev pub coordinatesApart : Curve
+coordinatesApart = line (pos 0) (pos 0) (pos 4) (pos 1)
+
+unfoldable pub exactResistance : Frac
+exactResistance = exactSide coordinatesApart resistance down (parameter 1 2)
 
 -- the walk's box: resistance 0 to 2, reactance 0 to 0
 abbrev pub smallBox : Rect
@@ -85,6 +92,21 @@ examples =
     ∷ (verdictShown (searched (values 1 (pos 0 ∷ pos 4 ∷ [])) smallBox 2 4 .verdict) gives pos spent ∷ pos 0 ∷ pos 0 ∷ pos 4 ∷ [])
     -- the same at depth 1: Undecided, depth 1, index 1, count 3
     ∷ (verdictShown (searched (values 1 (pos 0 ∷ pos 4 ∷ [])) smallBox 1 5 .verdict) gives pos undecided ∷ pos 1 ∷ pos 1 ∷ pos 3 ∷ [])
+    -- the exact flag: values 0, 4 at 1/2 are lit; values 1, 0, 3 at 1/2 dark, read and cut
+    ∷ (flagShown (evaluated (values 1 (pos 0 ∷ pos 4 ∷ [])) 1 2 .exact) gives pos 1 ∷ [])
+    ∷ (flagShown (evaluated threeValues 1 2 .exact) gives pos 0 ∷ [])
+    ∷ (flagShown (subdivided threeValues 1 2 .exact) gives pos 0 ∷ [])
+    -- values 0, 1 raised are dark, values 0, 2 raised lit
+    ∷ (flagShown (elevated (values 1 (pos 0 ∷ pos 1 ∷ [])) .exact) gives pos 0 ∷ [])
+    ∷ (flagShown (elevated (values 1 (pos 0 ∷ pos 2 ∷ [])) .exact) gives pos 1 ∷ [])
+    -- a refused call is dark, here by 4, 5 and 6
+    ∷ (flagShown (evaluated (values 1 (pos 0 ∷ pos 4 ∷ [])) 1 0 .exact) gives pos 0 ∷ [])
+    ∷ (flagShown (subdivided (values 1 (pos 0 ∷ pos 4 ∷ [])) 8 7 .exact) gives pos 0 ∷ [])
+    ∷ (flagShown (elevated (values 8 []) .exact) gives pos 0 ∷ [])
+    -- a reading can be dark and its load exact in a coordinate: here reactance was rounded, and resistance, 2, is exact
+    ∷ (flagShown (evaluated coordinatesApart 1 2 .exact) gives pos 0 ∷ [])
+    ∷ (evaluationShown (evaluated coordinatesApart 1 2) gives pos 0 ∷ pos 0 ∷ pos 2 ∷ pos 2 ∷ pos 0 ∷ pos 1 ∷ [])
+    ∷ (upperOf exactResistance gives timesLower (pos 2) exactResistance)
     ∷ []
 
 -- every example of the list is answered as the document says

@@ -1,7 +1,9 @@
 -- Answers as lists of numbers, so that examples of different calls stand in one list.
 -- Assumes nothing.
+use mathlib.Core.Bool.{Bool, cond}
 use mathlib.Core.List.{List, [], _∷_, _++_}
 use Prim.Native.Nat.{ℕ, suc, _+_}
+use lib.Dec.{eqb}
 use lib.IntN.{ℤ, pos, _*ℤ_}
 use lib.ListN.{getD, replicate}
 use Rattle.rational.specs.Fraction.{Frac}
@@ -23,6 +25,13 @@ valueAt vs k = record { resistance = record { low = getD vs k (pos 0); high = ge
 abbrev pub values : ℕ → List ℤ → Curve
 values n vs = curveOf n (valueAt vs)
 
+-- the straight line between two loads, each a resistance and a reactance with low equal to high
+abbrev pub line : ℤ → ℤ → ℤ → ℤ → Curve
+line r x r′ x′ = curveOf 1 (λ k. cond (eqb k 0) (load r x) (load r′ x′))
+  where
+    load : ℤ → ℤ → Rect
+    load r x = record { resistance = record { low = r; high = r }; reactance = record { low = x; high = x } }
+
 abbrev pub refusalShown : Refusal → List ℤ
 refusalShown r = pos (r .number) ∷ pos (r .place) ∷ []
 
@@ -31,6 +40,10 @@ ends i = i .low ∷ i .high ∷ []
 
 abbrev pub sidesShown : Rect → List ℤ
 sidesShown p = ends (p .resistance) ++ ends (p .reactance)
+
+-- an exact flag: 1 lit, 0 dark
+abbrev pub flagShown : Bool → List ℤ
+flagShown exact = cond exact (pos 1) (pos 0) ∷ []
 
 -- the refusal, then the load's four sides
 abbrev pub evaluationShown : Evaluation → List ℤ
