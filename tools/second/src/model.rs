@@ -173,7 +173,7 @@ fn ohm_bits(side: i64) -> u32 {
         size << (23 - leading)
     };
     let sign = u32::from(side < 0);
-    (sign << 31) | ((leading - 10 + 127) << 23) | (after & 0x007f_ffff)
+    (sign << 31) | ((leading + 127 - 10) << 23) | (after & 0x007f_ffff)
 }
 
 #[cfg(test)]
