@@ -51,7 +51,7 @@ pub const ROWS: [(Row, &str, u64); 22] = [
     (CardLong, "card, long input", 5),
     (CardPlaces, "card, every place of a refusal", 76),
     (CardSlow, "card, slow pipe", 16),
-    (ReplayExamples, "replay, examples", 13),
+    (ReplayExamples, "replay, examples", 16),
     (ReplayTexts, "replay, texts", 100),
     (ReplayDamaged, "replay, damaged texts", 500),
     (ReplayLong, "replay, long texts", 1),

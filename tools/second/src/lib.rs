@@ -1,5 +1,5 @@
-//! The second program: document 01 written again in ordinary Rust, from the paper and not from the
-//! proved code, and what runs it beside the proved library and the programs.
+//! The second program: document 01 and document 02's point 1 written again in ordinary Rust, from the
+//! papers and not from the proved code, and what runs it beside the proved library and the programs.
 #![forbid(unsafe_code)]
 
 // From the papers.

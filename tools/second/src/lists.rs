@@ -77,20 +77,21 @@ fn limits_reached(curve: &Curve) -> usize {
 fn step(trial: &mut Trial, list: &mut List, call: &Call) -> Result<Option<Evaluation>, String> {
     match call {
         Call::Evaluate(t) => {
-            let outcome = trial.evaluate(&list.given, *t)?;
+            let outcome = trial.evaluate(&list.given, *t)?.map(|load| load.result);
             let entry = feed(list, call, &outcome);
             return evaluation(outcome, entry, list);
         }
         Call::Subdivide(t, kept) => {
             let outcome = trial.subdivide(&list.given, *t)?;
-            let outcome = outcome.map(|[left, right]| match kept {
+            let kept = |[left, right]: [Given; 2]| match kept {
                 Kept::Left => left,
                 Kept::Right => right,
-            });
+            };
+            let outcome = outcome.map(|pieces| kept(pieces.result));
             change(list, call, outcome);
         }
         Call::Elevate => {
-            let outcome = trial.elevate(&list.given)?;
+            let outcome = trial.elevate(&list.given)?.map(|raised| raised.result);
             change(list, call, outcome);
         }
         Call::Bounds => trial.bounds(&list.given)?,

@@ -104,7 +104,7 @@ fn cases_text(cases: usize, rng: &mut Rng) -> Vec<u8> {
 
 /// Counts the evaluations whose place is shown, and those whose place is too long.
 fn count_places(lines: &[u8], tally: &mut Tally) {
-    const EVALUATED: usize = 60;
+    const EVALUATED: usize = 70;
     for line in lines.split(|byte| *byte == b'\n') {
         if line.len() >= EVALUATED && line.contains(&b'/') {
             tally.cover(Line::Placed, 0);
