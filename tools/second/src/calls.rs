@@ -39,6 +39,25 @@ const SEARCH: Counted = Counted {
     lengths: &[Line::SearchVerdict],
 };
 
+/// Where the flags of accepted calls are counted by degree: of rounded results, of exact ones where no map
+/// had anything to round, and of the other exact ones.
+type FlagLines = [Line; 3];
+const EVALUATE_FLAGS: FlagLines = [
+    Line::EvaluateRounded,
+    Line::EvaluateTrivial,
+    Line::EvaluateExact,
+];
+const SUBDIVIDE_FLAGS: FlagLines = [
+    Line::SubdivideRounded,
+    Line::SubdivideTrivial,
+    Line::SubdivideExact,
+];
+const ELEVATE_FLAGS: FlagLines = [
+    Line::ElevateRounded,
+    Line::ElevateTrivial,
+    Line::ElevateExact,
+];
+
 impl Trial<'_> {
     /// The load's sides.
     pub fn evaluate(
@@ -63,6 +82,7 @@ impl Trial<'_> {
             self.count_parameter(Line::EvaluateAt, t);
             self.count_ohms(&result);
             let exact = exact.says_exact();
+            self.count_flag(EVALUATE_FLAGS, given, t.is_end(), exact);
             Flagged { result, exact }
         }))
     }
@@ -102,6 +122,7 @@ impl Trial<'_> {
             self.count_given(given);
             self.count_parameter(Line::SubdivideAt, t);
             let exact = exact.says_exact();
+            self.count_flag(SUBDIVIDE_FLAGS, given, t.is_end(), exact);
             let result = [&left, &right].map(|piece| Given::handed_on(piece.left()));
             Flagged { result, exact }
         }))
@@ -122,6 +143,7 @@ impl Trial<'_> {
         Ok(outcome.map(|()| {
             self.count_given(given);
             let exact = exact.says_exact();
+            self.count_flag(ELEVATE_FLAGS, given, false, exact);
             let result = Given::handed_on(raised.left());
             Flagged { result, exact }
         }))
@@ -179,6 +201,17 @@ impl Trial<'_> {
             _ => FOUR,
         };
         (limits, lent)
+    }
+
+    /// Counts the flag of an accepted call. At 0 and 1, and of one rectangle, a map gives a side again.
+    fn count_flag(&mut self, lines: FlagLines, given: &Given, at_end: bool, exact: bool) {
+        let [rounded, trivial, between] = lines;
+        let line = match exact {
+            false => rounded,
+            true if at_end || given.is_one_rectangle() => trivial,
+            true => between,
+        };
+        self.tally.cover(line, given.degree as usize);
     }
 
     /// Counts the curve of an accepted call by the sides lent for it.

@@ -6,6 +6,7 @@
 pub mod card;
 pub mod claim;
 pub mod door;
+pub mod exact;
 pub mod ledger;
 pub mod model;
 pub mod natural;
@@ -16,11 +17,13 @@ pub mod call;
 pub mod damage;
 pub mod draw;
 pub mod given;
+pub mod grid;
 pub mod rng;
 
 // What is compared.
 pub mod calls;
 pub mod cards;
+pub mod flags;
 pub mod lent;
 pub mod lists;
 pub mod panel;
