@@ -4,6 +4,7 @@
 use crate::cards::{compare_reader, compare_writer};
 use crate::coverage::{Row, ROWS};
 use crate::door::{curve_length, given_curve, Door, MODEL};
+use crate::flag_faults::FLAG_FAULTS;
 use crate::model::low_above_high;
 use crate::rng::Rng;
 use crate::tally::Tally;
@@ -279,7 +280,7 @@ fn found(door: &Door) -> Result<(), String> {
 
 #[test]
 fn finds_every_fault() {
-    for (name, row, door) in FAULTS {
+    for (name, row, door) in FAULTS.into_iter().chain(FLAG_FAULTS) {
         let message = found(&door).expect_err(name);
         let (_, expected, _) = ROWS[row as usize];
         let first = message.lines().next();

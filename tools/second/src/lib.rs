@@ -37,3 +37,5 @@ pub mod tally;
 
 #[cfg(test)]
 mod faults;
+#[cfg(test)]
+mod flag_faults;
