@@ -36,14 +36,16 @@ fn refusal(points: &Points, num: u32, den: u32) -> u32 {
 
 /// The affine map of two rectangles at num/den, rounded outward, and whether no division left a remainder.
 fn affine(num: i64, den: i64, a: &Rect, b: &Rect) -> (Rect, bool) {
-    let divided = |side: usize, sign: i64| {
-        let sum = (den - num) * i64::from(a[side]) + num * i64::from(b[side]);
-        let signed = sign * sum;
-        let quotient = sign * signed.div_euclid(den);
-        (quotient as i32, signed.rem_euclid(den) == 0)
+    let sum = |side: usize| (den - num) * i64::from(a[side]) + num * i64::from(b[side]);
+    let divided = |sum: i64| (sum.div_euclid(den) as i32, sum.rem_euclid(den) == 0);
+    let low = |side: usize| divided(sum(side));
+    let high = |side: usize| {
+        let (quotient, whole) = divided(-sum(side));
+        (-quotient, whole)
     };
-    let [a, b, c, d] = [divided(0, 1), divided(1, -1), divided(2, 1), divided(3, -1)];
-    ([a.0, b.0, c.0, d.0], a.1 & b.1 & c.1 & d.1)
+    let sides = [low(0), high(1), low(2), high(3)];
+    let exact = sides.iter().fold(true, |exact, (_, whole)| exact & whole);
+    (sides.map(|(side, _)| side), exact)
 }
 
 /// One stage of de Casteljau's table in place: each of the first rectangles becomes the map of itself

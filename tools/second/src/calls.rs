@@ -205,11 +205,11 @@ impl Trial<'_> {
 
     /// Counts the flag of an accepted call. At 0 and 1, and of one rectangle, a map gives a side again.
     fn count_flag(&mut self, lines: FlagLines, given: &Given, at_end: bool, exact: bool) {
-        let [rounded, trivial, between] = lines;
+        let [rounded, trivial, other] = lines;
         let line = match exact {
             false => rounded,
             true if at_end || given.is_one_rectangle() => trivial,
-            true => between,
+            true => other,
         };
         self.tally.cover(line, given.degree as usize);
     }
