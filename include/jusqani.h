@@ -30,8 +30,14 @@
  * that is not refused stores its result in front of each buffer that it is lent for it, and what lies past the result
  * keeps its contents.
  *
- * The caller provides valid buffers of the stated lengths; one that a call writes overlaps no other. A pointer must
- * not be null, also where its length is 0. The calls keep no pointer and always return.
+ * A call with a pointer exact also tells whether it rounded: *exact becomes 1 where every affine map that it made, of
+ * low and high sides in both coordinates, left no remainder, and 0 where some map was rounded. 1 says that the sides
+ * are the exact ones of the curve that the call was given, whatever the calls before it rounded; 0 says only that some
+ * map was rounded. Equal fractions num/den give equal flags. A refused call leaves *exact as it was, so look at the
+ * answer first.
+ *
+ * The caller provides valid buffers of the stated lengths; one that a call writes, *exact too, overlaps no other. A
+ * pointer must not be null, also where its length is 0. The calls keep no pointer and always return.
  */
 #ifndef JUSQANI_H
 #define JUSQANI_H
@@ -55,26 +61,29 @@ extern "C" {
 
 /*
  * Evaluates the curve at num/den. The load's four sides are stored in load, and the same in ohms, with nothing lost,
- * in ohms. Refusals 1, 2, 3, 4, 5 and 12: either buffer is shorter than 4. A refusal changes neither buffer, and both
- * keep what lies past the first four numbers.
+ * in ohms; *exact tells whether no map of any stage was rounded. Refusals 1, 2, 3, 4, 5 and 12: either buffer is
+ * shorter than 4. A refusal changes neither buffer nor *exact, and both buffers keep what lies past the first four
+ * numbers.
  */
 uint64_t jusqani_evaluate(uint32_t degree, const int32_t *sides, size_t sides_length, uint32_t num, uint32_t den,
-                          int32_t *load, size_t load_length, float *ohms, size_t ohms_length);
+                          int32_t *load, size_t load_length, float *ohms, size_t ohms_length, uint32_t *exact);
 
 /*
  * Subdivides the curve at num/den. The piece up to num/den is stored in left and the piece from there on in right,
- * each a curve of the same degree. Refusals 1, 2, 3, 4, 5 and 12: either buffer is shorter than
- * JUSQANI_CURVE_LENGTH(degree). A refusal changes neither buffer, and both keep what lies past the piece.
+ * each a curve of the same degree; *exact is that of jusqani_evaluate at num/den. Refusals 1, 2, 3, 4, 5 and 12: either
+ * buffer is shorter than JUSQANI_CURVE_LENGTH(degree). A refusal changes neither buffer nor *exact, and both buffers
+ * keep what lies past the piece.
  */
 uint64_t jusqani_subdivide(uint32_t degree, const int32_t *sides, size_t sides_length, uint32_t num, uint32_t den,
-                           int32_t *left, size_t left_length, int32_t *right, size_t right_length);
+                           int32_t *left, size_t left_length, int32_t *right, size_t right_length, uint32_t *exact);
 
 /*
- * Raises the degree by one: the curve of degree + 1 is stored in raised. Refusals 1, 2, 3, 6 and 12: raised is shorter
- * than JUSQANI_CURVE_LENGTH(degree + 1). A refusal changes nothing, and raised keeps what lies past the curve.
+ * Raises the degree by one: the curve of degree + 1 is stored in raised; *exact tells whether none of its rectangles
+ * was rounded. Refusals 1, 2, 3, 6 and 12: raised is shorter than JUSQANI_CURVE_LENGTH(degree + 1). A refusal changes
+ * nothing, and raised keeps what lies past the curve.
  */
 uint64_t jusqani_elevate(uint32_t degree, const int32_t *sides, size_t sides_length, int32_t *raised,
-                         size_t raised_length);
+                         size_t raised_length, uint32_t *exact);
 
 /*
  * Bounds the curve: the four sides of the least rectangle that holds all of its rectangles are stored in rect.

@@ -1,13 +1,18 @@
-/* Reads a card to a curve and evaluates it: shows the ohms that the call itself gives, or a refusal with its place.
+/* Reads a card to a curve and evaluates it: shows the ohms that the call itself gives and whether they are exact, or a
+ * refusal with its place.
  * usage: curve NUM DEN [CURVE-LENGTH [LOAD-LENGTH]] < CARD */
 #include <inttypes.h>
 #include <stdio.h>
+#include <stdlib.h>
 
 #include "common.h"
 #include "jusqani.h"
 
 #define MAX_CURVE JUSQANI_CURVE_LENGTH(8)
 #define STEPS_PER_OHM 1024.0f
+
+/* What the flag holds before a call; an accepted one stores 0 or 1 there. */
+#define UNTOUCHED UINT32_MAX
 
 /* Says what was refused and where. */
 static void show_refusal(uint64_t answer)
@@ -34,12 +39,29 @@ static int same_load(const int32_t *load, const float *ohms)
     return 1;
 }
 
+/* The flag's word, or none where it is neither 0 nor 1. */
+static const char *flag_word(uint32_t exact)
+{
+    static const char *const words[] = {"rounded", "exact"};
+    return exact <= 1 ? words[exact] : NULL;
+}
+
+/* Ends the program where the library broke a promise. */
+static void require(int holds, const char *promise)
+{
+    if (!holds) {
+        printf("broken: %s\n", promise);
+        exit(PROMISE_BROKEN);
+    }
+}
+
 int main(int argc, char **argv)
 {
     uint8_t card[MAX_CARD];
     int32_t curve[MAX_CURVE];
     int32_t load[JUSQANI_RECT_LENGTH];
     float ohms[JUSQANI_RECT_LENGTH];
+    uint32_t exact = UNTOUCHED;
     if (argc < 3 || argc > 5) {
         fprintf(stderr, "usage: %s NUM DEN [CURVE-LENGTH [LOAD-LENGTH]] < CARD\n", argv[0]);
         return BAD_USAGE;
@@ -52,16 +74,16 @@ int main(int argc, char **argv)
     uint64_t answer = jusqani_read_card(card, card_length, curve, curve_length);
     if (answer == 0) {
         size_t sides = (size_t)JUSQANI_CURVE_LENGTH(curve[0]) - 1;
-        answer = jusqani_evaluate((uint32_t)curve[0], curve + 1, sides, num, den, load, load_length, ohms, load_length);
+        answer = jusqani_evaluate((uint32_t)curve[0], curve + 1, sides, num, den, load, load_length, ohms, load_length,
+                                  &exact);
     }
     if (answer != 0) {
+        require(exact == UNTOUCHED, "a refused call leaves the flag as it was");
         show_refusal(answer);
         return REFUSED;
     }
-    if (!same_load(load, ohms)) {
-        printf("the load in ohms is not the load in steps\n");
-        return PROMISE_BROKEN;
-    }
-    printf("R %.15g to %.15g ohm, X %.15g to %.15g ohm\n", ohms[0], ohms[1], ohms[2], ohms[3]);
+    require(same_load(load, ohms), "the load in ohms is the load in steps");
+    require(flag_word(exact) != NULL, "the flag of an accepted call is 0 or 1");
+    printf("R %.15g to %.15g ohm, X %.15g to %.15g ohm, %s\n", ohms[0], ohms[1], ohms[2], ohms[3], flag_word(exact));
     return 0;
 }

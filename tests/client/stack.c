@@ -33,6 +33,7 @@ static uint32_t num, den;
 static int32_t curve[MAX_CURVE], limits[JUSQANI_RECT_LENGTH];
 static int32_t first[MAX_CURVE], second[MAX_CURVE];
 static float ohms[JUSQANI_RECT_LENGTH];
+static uint32_t exact;
 static uint32_t verdict[JUSQANI_VERDICT_LENGTH];
 static uint8_t bytes[MAX_CARD_LENGTH];
 static uint64_t answer;
@@ -51,20 +52,20 @@ static void call_evaluate(void)
 {
     COUNT_FROM_HERE;
     answer = jusqani_evaluate((uint32_t)curve[0], curve + 1, MAX_CURVE - 1, num, den, first, MAX_CURVE, ohms,
-                              JUSQANI_RECT_LENGTH);
+                              JUSQANI_RECT_LENGTH, &exact);
 }
 
 static void call_subdivide(void)
 {
     COUNT_FROM_HERE;
     answer = jusqani_subdivide((uint32_t)curve[0], curve + 1, MAX_CURVE - 1, num, den, first, MAX_CURVE, second,
-                               MAX_CURVE);
+                               MAX_CURVE, &exact);
 }
 
 static void call_elevate(void)
 {
     COUNT_FROM_HERE;
-    answer = jusqani_elevate((uint32_t)curve[0], curve + 1, MAX_CURVE - 1, first, MAX_CURVE);
+    answer = jusqani_elevate((uint32_t)curve[0], curve + 1, MAX_CURVE - 1, first, MAX_CURVE, &exact);
 }
 
 static void call_bounds(void)

@@ -1,6 +1,6 @@
 //! The plain side: what one would write by hand in Rust for the same slices and the same refusals. One
-//! table in place, sides of 32 bits, products of 64 bits, and one division for each side. It works out
-//! no ohms, which ours does.
+//! table in place, sides of 32 bits, products of 64 bits, and one division for each side. It works the
+//! exact flag out as ours does, from the remainder of each division; it works out no ohms, which ours does.
 
 use crate::calls::CURVE_SIDES;
 use jusqani::{MAX_DEN, MAX_SIDE, PLACES, RECT_LENGTH};
@@ -34,20 +34,30 @@ fn refusal(points: &Points, num: u32, den: u32) -> u32 {
     0
 }
 
-/// The affine map of two rectangles at num/den, rounded outward.
-fn affine(num: i64, den: i64, a: &Rect, b: &Rect) -> Rect {
+/// The affine map of two rectangles at num/den, rounded outward, and whether no division left a remainder.
+fn affine(num: i64, den: i64, a: &Rect, b: &Rect) -> (Rect, bool) {
     let sum = |side: usize| (den - num) * i64::from(a[side]) + num * i64::from(b[side]);
-    let low = |side: usize| sum(side).div_euclid(den) as i32;
-    let high = |side: usize| -(-sum(side)).div_euclid(den) as i32;
-    [low(0), high(1), low(2), high(3)]
+    let divided = |sum: i64| (sum.div_euclid(den) as i32, sum.rem_euclid(den) == 0);
+    let low = |side: usize| divided(sum(side));
+    let high = |side: usize| {
+        let (quotient, whole) = divided(-sum(side));
+        (-quotient, whole)
+    };
+    let sides = [low(0), high(1), low(2), high(3)];
+    let exact = sides.iter().fold(true, |exact, (_, whole)| exact & whole);
+    (sides.map(|(side, _)| side), exact)
 }
 
 /// One stage of de Casteljau's table in place: each of the first rectangles becomes the map of itself
-/// and the next.
-fn stage(points: &mut [Rect], num: u32, den: u32) {
+/// and the next. The stage is exact where every map is.
+fn stage(points: &mut [Rect], num: u32, den: u32) -> bool {
+    let mut exact = true;
     for k in 1..points.len() {
-        points[k - 1] = affine(num.into(), den.into(), &points[k - 1], &points[k]);
+        let (point, whole) = affine(num.into(), den.into(), &points[k - 1], &points[k]);
+        points[k - 1] = point;
+        exact &= whole;
     }
+    exact
 }
 
 fn store(points: &[Rect], out: &mut [i32]) {
@@ -56,32 +66,36 @@ fn store(points: &[Rect], out: &mut [i32]) {
     }
 }
 
-pub fn evaluate(sides: &[i32], num: u32, den: u32, out: &mut [i32]) -> u32 {
+pub fn evaluate(sides: &[i32], num: u32, den: u32, out: &mut [i32], exact: &mut u32) -> u32 {
     let mut points = points_of(sides);
     let number = refusal(&points, num, den);
     if number != 0 {
         return number;
     }
+    let mut whole = true;
     for length in (2..=PLACES).rev() {
-        stage(&mut points[..length], num, den);
+        whole &= stage(&mut points[..length], num, den);
     }
     store(&points[..1], out);
+    *exact = whole.into();
     0
 }
 
 /// The first rectangle of each stage is the left piece; what the stages leave in place is the right one.
-pub fn subdivide(sides: &[i32], num: u32, den: u32, out: &mut [i32]) -> u32 {
+pub fn subdivide(sides: &[i32], num: u32, den: u32, out: &mut [i32], exact: &mut u32) -> u32 {
     let mut points = points_of(sides);
     let number = refusal(&points, num, den);
     if number != 0 {
         return number;
     }
     let mut left = points;
+    let mut whole = true;
     for length in (2..=PLACES).rev() {
-        stage(&mut points[..length], num, den);
+        whole &= stage(&mut points[..length], num, den);
         left[PLACES + 1 - length] = points[0];
     }
     store(&left, &mut out[..CURVE_SIDES]);
     store(&points, &mut out[CURVE_SIDES..]);
+    *exact = whole.into();
     0
 }

@@ -26,6 +26,9 @@ pub const VERDICT_LENGTH: usize = 4;
 /// The bytes of a card of the highest degree.
 pub const CARD_LENGTH: usize = card_length(MAX_DEGREE);
 
+/// The exact flag of a call that rounded some side.
+const ROUNDED: u32 = 0;
+
 /// The numbers of a curve of this degree.
 pub const fn curve_length(degree: u32) -> usize {
     1 + RECT_LENGTH * (degree as usize + 1)
@@ -100,11 +103,29 @@ impl PartialEq for Curve {
 
 impl Eq for Curve {}
 
-/// The load at a parameter, in steps and, with nothing lost, in ohms.
+/// The load at a parameter, in steps and, with nothing lost, in ohms. It is exact where nothing was
+/// rounded: its sides are then the exact ones of the curve that was evaluated.
 #[derive(Clone, Copy, PartialEq, Debug, Default)]
 pub struct Evaluation {
     pub load: Rect,
     pub ohms: [f32; RECT_LENGTH],
+    pub exact: bool,
+}
+
+/// The pieces of a curve up to a parameter and from there on. They are exact where nothing was rounded,
+/// as the load at that parameter then is too.
+#[derive(Clone, Copy, PartialEq, Eq, Debug, Default)]
+pub struct Subdivision {
+    pub left: Curve,
+    pub right: Curve,
+    pub exact: bool,
+}
+
+/// A curve with its degree raised by one, exact where nothing was rounded.
+#[derive(Clone, Copy, PartialEq, Eq, Debug, Default)]
+pub struct Elevation {
+    pub curve: Curve,
+    pub exact: bool,
 }
 
 /// What a search over a box found, with the number of pieces looked at.
@@ -148,33 +169,58 @@ impl Curve {
         &self.points[..PLACES.min(self.degree as usize + 1)]
     }
 
-    /// The load at num/den.
+    /// The load at num/den, and whether it is exact.
     #[inline]
     pub fn evaluate(&self, num: u32, den: u32) -> Result<Evaluation, Refusal> {
-        let mut load = [0; RECT_LENGTH];
-        let mut ohms = [0.0; RECT_LENGTH];
-        let answer = raw::evaluate(self.degree, &self.sides(), num, den, &mut load, &mut ohms);
+        let (mut load, mut ohms, mut exact) = ([0; RECT_LENGTH], [0.0; RECT_LENGTH], ROUNDED);
+        let answer = raw::evaluate(
+            self.degree,
+            &self.sides(),
+            num,
+            den,
+            &mut load,
+            &mut ohms,
+            &mut exact,
+        );
         Refusal::check(answer)?;
-        let load = load.into();
-        Ok(Evaluation { load, ohms })
+        Ok(Evaluation {
+            load: load.into(),
+            ohms,
+            exact: exact != ROUNDED,
+        })
     }
 
-    /// The pieces up to num/den and from there on.
+    /// The pieces up to num/den and from there on, and whether they are exact.
     #[inline]
-    pub fn subdivide(&self, num: u32, den: u32) -> Result<(Curve, Curve), Refusal> {
-        let mut left = [0; CURVE_LENGTH];
-        let mut right = [0; CURVE_LENGTH];
-        let answer = raw::subdivide(self.degree, &self.sides(), num, den, &mut left, &mut right);
+    pub fn subdivide(&self, num: u32, den: u32) -> Result<Subdivision, Refusal> {
+        let (mut left, mut right, mut exact) = ([0; CURVE_LENGTH], [0; CURVE_LENGTH], ROUNDED);
+        let answer = raw::subdivide(
+            self.degree,
+            &self.sides(),
+            num,
+            den,
+            &mut left,
+            &mut right,
+            &mut exact,
+        );
         Refusal::check(answer)?;
-        Ok((Curve::of(&left), Curve::of(&right)))
+        Ok(Subdivision {
+            left: Curve::of(&left),
+            right: Curve::of(&right),
+            exact: exact != ROUNDED,
+        })
     }
 
-    /// The curve with its degree raised by one.
+    /// The curve with its degree raised by one, and whether it is exact.
     #[inline]
-    pub fn elevate(&self) -> Result<Curve, Refusal> {
-        let mut raised = [0; CURVE_LENGTH];
-        Refusal::check(raw::elevate(self.degree, &self.sides(), &mut raised))?;
-        Ok(Curve::of(&raised))
+    pub fn elevate(&self) -> Result<Elevation, Refusal> {
+        let (mut raised, mut exact) = ([0; CURVE_LENGTH], ROUNDED);
+        let answer = raw::elevate(self.degree, &self.sides(), &mut raised, &mut exact);
+        Refusal::check(answer)?;
+        Ok(Elevation {
+            curve: Curve::of(&raised),
+            exact: exact != ROUNDED,
+        })
     }
 
     /// The least rectangle that holds all of the curve's.

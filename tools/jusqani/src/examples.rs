@@ -49,14 +49,33 @@ fn evaluates_the_papers_card() {
 
 #[test]
 fn subdivides_and_elevates() {
-    let (left, right) = values(&[1, 0, 3]).subdivide(1, 2).unwrap();
+    let Subdivision { left, right, .. } = values(&[1, 0, 3]).subdivide(1, 2).unwrap();
     assert_eq!(resistances(left), [[1, 1], [0, 1], [0, 2]]);
     assert_eq!(resistances(right), [[0, 2], [1, 2], [3, 3]]);
     assert_eq!(left.points[3..], [Rect::default(); 6]);
-    let raised = values(&[0, 0, -1]).elevate().unwrap();
+    let raised = values(&[0, 0, -1]).elevate().unwrap().curve;
     assert_eq!(resistances(raised), [[0, 0], [0, 0], [-1, 0], [-1, -1]]);
     assert_eq!(raised.degree, 3);
     assert_eq!(values(&[0; 9]).elevate(), refused(6, 0));
+}
+
+/// Document 02, point 1.
+#[test]
+fn says_whether_nothing_was_rounded() {
+    let exact = |curve: Curve, num, den| {
+        let evaluated = curve.evaluate(num, den).unwrap().exact;
+        assert_eq!(curve.subdivide(num, den).unwrap().exact, evaluated);
+        evaluated
+    };
+    assert!(exact(values(&[0, 4]), 1, 2));
+    assert!(!exact(values(&[1, 0, 3]), 1, 2));
+    assert!(exact(values(&[1, 0, 3]), 0, 1) && exact(values(&[1, 0, 3]), 7, 7));
+    // The resistance [2, 2] is exact, but the reactance is 1/2.
+    let mut line = values(&[0, 4]);
+    line.points[1].reactance = Interval { low: 1, high: 1 };
+    assert!(!exact(line, 1, 2));
+    assert!(!values(&[0, 1]).elevate().unwrap().exact);
+    assert!(values(&[0, 2]).elevate().unwrap().exact);
 }
 
 #[test]

@@ -7,8 +7,8 @@ pub mod raw;
 mod refusal;
 
 pub use curve::{
-    card_length, curve_length, Curve, Evaluation, Interval, Rect, Verdict, CARD_LENGTH,
-    CURVE_LENGTH, MAX_DEGREE, MAX_DEN, MAX_SIDE, PLACES, RECT_LENGTH, VERDICT_LENGTH,
+    card_length, curve_length, Curve, Elevation, Evaluation, Interval, Rect, Subdivision, Verdict,
+    CARD_LENGTH, CURVE_LENGTH, MAX_DEGREE, MAX_DEN, MAX_SIDE, PLACES, RECT_LENGTH, VERDICT_LENGTH,
 };
 pub use refusal::Refusal;
 

@@ -1,8 +1,9 @@
 //! The exported calls on slices, one thin function for each, exactly as `include/jusqani.h` has them.
 //!
 //! These are the only unsafe blocks of the tools. Each hands over slices as pointers with their own
-//! lengths. A slice's pointer is never null, `&` and `&mut` rule out that a buffer that is written
-//! overlaps another, and a call keeps no pointer: that is all that the header asks of its caller.
+//! lengths, and the exact flag as a pointer to one number. Such a pointer is never null, `&` and `&mut`
+//! rule out that a buffer that is written overlaps another, and a call keeps no pointer: that is all
+//! that the header asks of its caller.
 #![allow(unsafe_code)]
 
 mod foreign {
@@ -17,6 +18,7 @@ mod foreign {
             load_length: usize,
             ohms: *mut f32,
             ohms_length: usize,
+            exact: *mut u32,
         ) -> u64;
         pub fn jusqani_subdivide(
             degree: u32,
@@ -28,6 +30,7 @@ mod foreign {
             left_length: usize,
             right: *mut i32,
             right_length: usize,
+            exact: *mut u32,
         ) -> u64;
         pub fn jusqani_elevate(
             degree: u32,
@@ -35,6 +38,7 @@ mod foreign {
             sides_length: usize,
             raised: *mut i32,
             raised_length: usize,
+            exact: *mut u32,
         ) -> u64;
         pub fn jusqani_bounds(
             degree: u32,
@@ -78,7 +82,7 @@ mod foreign {
     }
 }
 
-/// Evaluates a curve at num/den: the load's sides in steps and in ohms.
+/// Evaluates a curve at num/den: the load's sides in steps and in ohms, and the exact flag.
 #[inline]
 pub fn evaluate(
     degree: u32,
@@ -87,8 +91,9 @@ pub fn evaluate(
     den: u32,
     load: &mut [i32],
     ohms: &mut [f32],
+    exact: &mut u32,
 ) -> u64 {
-    // Sound: three slices with their lengths, two of them lent alone (see the module).
+    // Sound: three slices with their lengths, two of them and the flag lent alone (see the module).
     unsafe {
         foreign::jusqani_evaluate(
             degree,
@@ -100,11 +105,12 @@ pub fn evaluate(
             load.len(),
             ohms.as_mut_ptr(),
             ohms.len(),
+            exact,
         )
     }
 }
 
-/// Subdivides a curve at num/den into two curves of its degree.
+/// Subdivides a curve at num/den into two curves of its degree, with the exact flag.
 #[inline]
 pub fn subdivide(
     degree: u32,
@@ -113,8 +119,9 @@ pub fn subdivide(
     den: u32,
     left: &mut [i32],
     right: &mut [i32],
+    exact: &mut u32,
 ) -> u64 {
-    // Sound: three slices with their lengths, two of them lent alone (see the module).
+    // Sound: three slices with their lengths, two of them and the flag lent alone (see the module).
     unsafe {
         foreign::jusqani_subdivide(
             degree,
@@ -126,14 +133,15 @@ pub fn subdivide(
             left.len(),
             right.as_mut_ptr(),
             right.len(),
+            exact,
         )
     }
 }
 
-/// Raises a curve's degree by one.
+/// Raises a curve's degree by one, with the exact flag.
 #[inline]
-pub fn elevate(degree: u32, sides: &[i32], raised: &mut [i32]) -> u64 {
-    // Sound: two slices with their lengths, the second lent alone (see the module).
+pub fn elevate(degree: u32, sides: &[i32], raised: &mut [i32], exact: &mut u32) -> u64 {
+    // Sound: two slices with their lengths, the second and the flag lent alone (see the module).
     unsafe {
         foreign::jusqani_elevate(
             degree,
@@ -141,6 +149,7 @@ pub fn elevate(degree: u32, sides: &[i32], raised: &mut [i32]) -> u64 {
             sides.len(),
             raised.as_mut_ptr(),
             raised.len(),
+            exact,
         )
     }
 }

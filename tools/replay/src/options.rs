@@ -9,17 +9,19 @@ card and call. All numbers stand in columns of ten bytes. A case is a card, then
 line with the column 0:
 
   columns of the line        call                   answer
-  1, num, den                reading                0, the load's four sides, the sum of steps
+  1, num, den                reading                0, the load's four sides, the sum of steps,
+                                                    exact
   2, num, den                cut, left piece kept   0, the degree, the rectangles of the left piece,
-                                                    then of the right
+                                                    then of the right, exact
   3, num, den                cut, right piece kept  the same
-  4                          raising                0, the new degree, its rectangles
+  4                          raising                0, the new degree, its rectangles, exact
   5                          bounds                 0, four sides
   6, four box sides, depth,  walk over a box        0, verdict (1 Inside, 2 Outside, 3 Spent,
   budget                                            4 Undecided), depth, index, count
 
-A card answers 0 and its degree, and a refusal its number and place. A card or a call line that is
-malformed or cut short ends the run with 99 and the offset of its first byte.
+Exact is 1 where the call rounded nothing, and 0 where it rounded some side. A card answers 0 and its
+degree, and a refusal its number and place. A card or a call line that is malformed or cut short ends
+the run with 99 and the offset of its first byte.
 
   --places  put two spaces and the place on the starting curve behind each accepted reading, as
             upper/lower in lowest terms, where both have at most 20 digits

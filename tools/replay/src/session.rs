@@ -1,6 +1,6 @@
 //! A case as it runs: the curve that is left, its ledger, and the answer to each call.
 
-use jusqani::{Curve, Rect, Refusal, Verdict};
+use jusqani::{Curve, Elevation, Rect, Refusal, Subdivision, Verdict};
 
 use crate::call::Call;
 use crate::columns::{capped, columns_of};
@@ -73,16 +73,17 @@ impl Session {
     }
 
     fn evaluate(&self, num: u32, den: u32) -> Result<Answer, Refusal> {
-        let load = self.curve.evaluate(num, den)?.load;
+        let read = self.curve.evaluate(num, den)?;
         let mut numbers = vec![0];
-        numbers.extend(sides(&[load]));
+        numbers.extend(sides(&[read.load]));
         numbers.push(capped(self.ledger.sum(self.curve.degree)));
+        numbers.push(read.exact.into());
         let place = self.ledger.place(num, den);
         Ok(Answer { numbers, place })
     }
 
     fn subdivide(&mut self, num: u32, den: u32, kept: Kept) -> Result<Answer, Refusal> {
-        let (left, right) = self.curve.subdivide(num, den)?;
+        let Subdivision { left, right, exact } = self.curve.subdivide(num, den)?;
         self.ledger.cut(self.curve.degree, num, den, kept);
         self.curve = match kept {
             Kept::Left => left,
@@ -91,14 +92,17 @@ impl Session {
         let mut numbers = vec![0, left.degree.into()];
         numbers.extend(sides(left.control_points()));
         numbers.extend(sides(right.control_points()));
+        numbers.push(exact.into());
         Ok(Answer::of(numbers))
     }
 
     fn elevate(&mut self) -> Result<Answer, Refusal> {
-        self.curve = self.curve.elevate()?;
+        let Elevation { curve, exact } = self.curve.elevate()?;
         self.ledger.raise();
-        let mut numbers = vec![0, self.curve.degree.into()];
-        numbers.extend(sides(self.curve.control_points()));
+        self.curve = curve;
+        let mut numbers = vec![0, curve.degree.into()];
+        numbers.extend(sides(curve.control_points()));
+        numbers.push(exact.into());
         Ok(Answer::of(numbers))
     }
 
@@ -161,7 +165,10 @@ mod tests {
     fn answers_each_call() {
         let (mut session, answer) = Session::open(CARD, false);
         assert_eq!(answer.numbers, [0, 1]);
-        assert_eq!(numbers(&mut session, evaluate(1, 2)), [0, 0, 2, -2, 0, 1]);
+        assert_eq!(
+            numbers(&mut session, evaluate(1, 2)),
+            [0, 0, 2, -2, 0, 1, 0]
+        );
         assert_eq!(numbers(&mut session, Call::Bounds), [0, 0, 3, -3, 2]);
         let search = Call::Search {
             limits: [0, 3, -3, 2].into(),
@@ -169,11 +176,29 @@ mod tests {
             budget: 1,
         };
         assert_eq!(numbers(&mut session, search), [0, 1, 0, 0, 1]);
-        let pieces = [0, 1, 0, 1, -3, -3, 0, 2, -2, 0, 0, 2, -2, 0, 1, 3, 0, 2];
+        let pieces = [0, 1, 0, 1, -3, -3, 0, 2, -2, 0, 0, 2, -2, 0, 1, 3, 0, 2, 0];
         assert_eq!(numbers(&mut session, subdivide(1, 2, Kept::Left)), pieces);
-        let raised = [0, 2, 0, 1, -3, -3, 0, 2, -3, -1, 0, 2, -2, 0];
+        let raised = [0, 2, 0, 1, -3, -3, 0, 2, -3, -1, 0, 2, -2, 0, 0];
         assert_eq!(numbers(&mut session, Call::Elevate), raised);
-        assert_eq!(numbers(&mut session, evaluate(0, 1)), [0, 0, 1, -3, -3, 4]);
+        assert_eq!(
+            numbers(&mut session, evaluate(0, 1)),
+            [0, 0, 1, -3, -3, 4, 1]
+        );
+    }
+
+    #[test]
+    fn says_last_whether_nothing_was_rounded() {
+        let card = b"         1
+         0         0         0         0
+         4         4         0         0
+";
+        let (mut session, _) = Session::open(card, false);
+        assert_eq!(numbers(&mut session, evaluate(1, 2)), [0, 2, 2, 0, 0, 1, 1]);
+        assert_eq!(numbers(&mut session, evaluate(1, 3)), [0, 1, 2, 0, 0, 1, 0]);
+        let pieces = [0, 1, 0, 0, 0, 0, 2, 2, 0, 0, 2, 2, 0, 0, 4, 4, 0, 0, 1];
+        assert_eq!(numbers(&mut session, subdivide(1, 2, Kept::Left)), pieces);
+        let raised = [0, 2, 0, 0, 0, 0, 1, 1, 0, 0, 2, 2, 0, 0, 1];
+        assert_eq!(numbers(&mut session, Call::Elevate), raised);
     }
 
     #[test]
@@ -184,7 +209,7 @@ mod tests {
         let line = session.answer(evaluate(2, 4)).line();
         assert_eq!(
             line,
-            "         0         0         2        -2         0         1  1/2\n"
+            "         0         0         2        -2         0         1         0  1/2\n"
         );
     }
 
@@ -206,7 +231,7 @@ mod tests {
         let cut = session.answer(subdivide(1, 3, Kept::Right));
         assert_eq!(cut.place, None);
         let read = session.answer(evaluate(1, 4)).line();
-        assert!(read.ends_with("         2  1/2\n"), "{read}");
+        assert!(read.ends_with("         2         0  1/2\n"), "{read}");
         assert_eq!(
             session.answer(evaluate(5, 4)).line(),
             "         5         0\n"

@@ -158,7 +158,7 @@ fn shows_places_where_it_is_asked_to() {
         answers.lines().map(str::to_string).collect::<Vec<_>>()
     };
     let mut answers = shown(&[]);
-    let read = "         0         0         3        -2         0         2";
+    let read = "         0         0         3        -2         0         2         0";
     assert_eq!(answers[2..], [read, "         5         0"]);
     answers[2].push_str("  1/2");
     assert_eq!(shown(&["--places"]), answers);

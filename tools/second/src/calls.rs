@@ -3,8 +3,8 @@
 use crate::coverage::{Line, Ohm, Row};
 use crate::door::{curve_length, FOUR, MODEL};
 use crate::given::Given;
-use crate::lent::{Lent, BEHIND};
-use crate::model::{Parameter, MAX_DEGREE, MAX_SIDE};
+use crate::lent::{Compared, Lent, LentFlag, BEHIND};
+use crate::model::{Flagged, Parameter, MAX_DEGREE, MAX_SIDE};
 use crate::search::Search;
 use crate::trial::{Counted, Outcome, Trial, SPARE};
 use std::cmp::Ordering;
@@ -39,22 +39,51 @@ const SEARCH: Counted = Counted {
     lengths: &[Line::SearchVerdict],
 };
 
+/// Where the flags of accepted calls are counted by degree: of rounded results, of exact ones where no map
+/// had anything to round, and of the other exact ones.
+type FlagLines = [Line; 3];
+const EVALUATE_FLAGS: FlagLines = [
+    Line::EvaluateRounded,
+    Line::EvaluateTrivial,
+    Line::EvaluateExact,
+];
+const SUBDIVIDE_FLAGS: FlagLines = [
+    Line::SubdivideRounded,
+    Line::SubdivideTrivial,
+    Line::SubdivideExact,
+];
+const ELEVATE_FLAGS: FlagLines = [
+    Line::ElevateRounded,
+    Line::ElevateTrivial,
+    Line::ElevateExact,
+];
+
 impl Trial<'_> {
     /// The load's sides.
-    pub fn evaluate(&mut self, given: &Given, t: Parameter) -> Result<Outcome<[i32; 4]>, String> {
+    pub fn evaluate(
+        &mut self,
+        given: &Given,
+        t: Parameter,
+    ) -> Result<Outcome<Flagged<[i32; 4]>>, String> {
         let mut load: Lent<i32, RECT_ROOM> = self.lend("load", FOUR);
         let mut ohms: Lent<f32, RECT_ROOM> = self.lend("ohms", FOUR);
+        let mut exact = LentFlag::new(self.rng);
         let (degree, sides, Parameter { num, den }) = (given.degree, given.sides(), t);
-        let expected = (MODEL.evaluate)(degree, sides, num, den, load.expected(), ohms.expected());
-        let came = (self.door.evaluate)(degree, sides, num, den, load.came(), ohms.came());
+        let (to, display, flag) = (load.expected(), ohms.expected(), exact.expected());
+        let expected = (MODEL.evaluate)(degree, sides, num, den, to, display, flag);
+        let (to, display, flag) = (load.came(), ohms.came(), exact.came());
+        let came = (self.door.evaluate)(degree, sides, num, den, to, display, flag);
         let input = || format!("{given}\nat {num}/{den}");
-        let outcome = self.finish(&EVALUATE, [expected, came], FOUR, &[&load, &ohms], input)?;
+        let buffers: [&dyn Compared; 3] = [&load, &ohms, &exact];
+        let outcome = self.finish(&EVALUATE, [expected, came], FOUR, &buffers, input)?;
         Ok(outcome.map(|()| {
-            let sides = std::array::from_fn(|side| load.left()[side]);
+            let result = std::array::from_fn(|side| load.left()[side]);
             self.count_given(given);
             self.count_parameter(Line::EvaluateAt, t);
-            self.count_ohms(&sides);
-            sides
+            self.count_ohms(&result);
+            let exact = exact.says_exact();
+            self.count_flag(EVALUATE_FLAGS, given, t.is_end(), exact);
+            Flagged { result, exact }
         }))
     }
 
@@ -76,42 +105,47 @@ impl Trial<'_> {
         &mut self,
         given: &Given,
         t: Parameter,
-    ) -> Result<Outcome<[Given; 2]>, String> {
+    ) -> Result<Outcome<Flagged<[Given; 2]>>, String> {
         let needed = given.curve_length();
         let mut left: Lent<i32, CURVE_ROOM> = self.lend("left", needed);
         let mut right: Lent<i32, CURVE_ROOM> = self.lend("right", needed);
+        let mut exact = LentFlag::new(self.rng);
         let (degree, sides, Parameter { num, den }) = (given.degree, given.sides(), t);
-        let expected =
-            (MODEL.subdivide)(degree, sides, num, den, left.expected(), right.expected());
-        let came = (self.door.subdivide)(degree, sides, num, den, left.came(), right.came());
+        let (up_to, from, flag) = (left.expected(), right.expected(), exact.expected());
+        let expected = (MODEL.subdivide)(degree, sides, num, den, up_to, from, flag);
+        let (up_to, from, flag) = (left.came(), right.came(), exact.came());
+        let came = (self.door.subdivide)(degree, sides, num, den, up_to, from, flag);
         let input = || format!("{given}\nat {num}/{den}");
-        let outcome = self.finish(
-            &SUBDIVIDE,
-            [expected, came],
-            needed,
-            &[&left, &right],
-            input,
-        )?;
+        let buffers: [&dyn Compared; 3] = [&left, &right, &exact];
+        let outcome = self.finish(&SUBDIVIDE, [expected, came], needed, &buffers, input)?;
         Ok(outcome.map(|()| {
             self.count_given(given);
             self.count_parameter(Line::SubdivideAt, t);
-            [&left, &right].map(|piece| Given::handed_on(piece.left()))
+            let exact = exact.says_exact();
+            self.count_flag(SUBDIVIDE_FLAGS, given, t.is_end(), exact);
+            let result = [&left, &right].map(|piece| Given::handed_on(piece.left()));
+            Flagged { result, exact }
         }))
     }
 
     /// The curve of one degree more.
-    pub fn elevate(&mut self, given: &Given) -> Result<Outcome<Given>, String> {
+    pub fn elevate(&mut self, given: &Given) -> Result<Outcome<Flagged<Given>>, String> {
         // At degree 8 there is no result; a buffer for a curve of that degree is lent.
         let needed = curve_length(MAX_DEGREE.min(given.near_degree() + 1));
         let mut raised: Lent<i32, CURVE_ROOM> = self.lend("raised", needed);
+        let mut exact = LentFlag::new(self.rng);
         let (degree, sides) = (given.degree, given.sides());
-        let expected = (MODEL.elevate)(degree, sides, raised.expected());
-        let came = (self.door.elevate)(degree, sides, raised.came());
+        let expected = (MODEL.elevate)(degree, sides, raised.expected(), exact.expected());
+        let came = (self.door.elevate)(degree, sides, raised.came(), exact.came());
         let input = || given.to_string();
-        let outcome = self.finish(&ELEVATE, [expected, came], needed, &[&raised], input)?;
+        let buffers: [&dyn Compared; 2] = [&raised, &exact];
+        let outcome = self.finish(&ELEVATE, [expected, came], needed, &buffers, input)?;
         Ok(outcome.map(|()| {
             self.count_given(given);
-            Given::handed_on(raised.left())
+            let exact = exact.says_exact();
+            self.count_flag(ELEVATE_FLAGS, given, false, exact);
+            let result = Given::handed_on(raised.left());
+            Flagged { result, exact }
         }))
     }
 
@@ -167,6 +201,17 @@ impl Trial<'_> {
             _ => FOUR,
         };
         (limits, lent)
+    }
+
+    /// Counts the flag of an accepted call. At 0 and 1, and of one rectangle, a map gives a side again.
+    fn count_flag(&mut self, lines: FlagLines, given: &Given, at_end: bool, exact: bool) {
+        let [rounded, trivial, other] = lines;
+        let line = match exact {
+            false => rounded,
+            true if at_end || given.is_one_rectangle() => trivial,
+            true => other,
+        };
+        self.tally.cover(line, given.degree as usize);
     }
 
     /// Counts the curve of an accepted call by the sides lent for it.

@@ -98,7 +98,7 @@ fn malformed(place: usize) -> Malformed {
 
 /// Compares the writer with a buffer of this length, for a drawn curve of this degree.
 pub fn compare_writer(trial: &mut Trial, degree: usize, length: usize) -> Result<(), String> {
-    let given = draw::given(trial.rng, degree);
+    let given = draw::given(trial.rng, degree, None);
     let mut card: Lent<u8, CARD_ROOM> = Lent::new("card", length, trial.rng);
     let expected = (MODEL.write_card)(given.degree, given.sides(), card.expected());
     let came = (trial.door.write_card)(given.degree, given.sides(), card.came());

@@ -53,9 +53,8 @@ impl Bernstein {
         let powers = upper.powers(degree);
         let others = lower.minus(upper).powers(degree);
         let weight = |k: usize| {
-            powers[k]
-                .times(&others[degree - k])
-                .times(&binomial(degree, k))
+            let ways = Natural::from(binomial(degree, k) as u32);
+            powers[k].times(&others[degree - k]).times(&ways)
         };
         let weights = (0..=degree).map(weight).collect();
         Bernstein {
@@ -78,6 +77,14 @@ impl Bernstein {
         Integer::product(number, &self.lower)
     }
 
+    /// Which sides of a rectangle are the Bernstein sums of the same sides of these points.
+    pub fn equal_sides(&self, points: &[Rectangle], rectangle: &Rectangle) -> [bool; 4] {
+        std::array::from_fn(|side| {
+            let exact = self.sum(points.iter().map(|point| point[side]));
+            self.number(rectangle[side]).equals(&exact)
+        })
+    }
+
     /// Whether both coordinates of the ordinary curve's load lie within the sides, edges included.
     pub fn load_within(&self, ordinary: &Ordinary, sides: &Rectangle) -> bool {
         let within = |points: &[i64], low: i64, high: i64| {
@@ -90,16 +97,17 @@ impl Bernstein {
 }
 
 /// The binomial coefficient: the number of ways to choose k from n.
-fn binomial(n: usize, k: usize) -> Natural {
-    let counted = (0..k).fold(1, |ways, i| ways * (n - i) / (i + 1));
-    Natural::from(counted as u32)
+pub fn binomial(n: usize, k: usize) -> usize {
+    (0..k).fold(1, |ways, i| ways * (n - i) / (i + 1))
 }
 
-/// Demand 3 at one accepted evaluation of a list of calls from `start`; the message says what fails.
+/// Demand 3 at one accepted evaluation of a list of calls from `start`, with at most so many steps from
+/// the exact sides; the message says what fails.
 pub fn claim(
     start: &Curve,
     inside: &[Ordinary],
     entry: &Entry,
+    steps: i64,
     read: &Rectangle,
 ) -> Result<(), String> {
     let weights = Bernstein::at(start.degree, &entry.upper, &entry.lower);
@@ -114,14 +122,13 @@ pub fn claim(
     for side in 0..4 {
         let exact = weights.sum(start.control_points().iter().map(|r| r[side]));
         let near = if side % 2 == 0 {
-            exact.at_most(&weights.number(read[side] + entry.sum))
+            exact.at_most(&weights.number(read[side] + steps))
         } else {
-            weights.number(read[side] - entry.sum).at_most(&exact)
+            weights.number(read[side] - steps).at_most(&exact)
         };
         if !near {
             return Err(format!(
-                "side {side} of {read:?} is more than {} steps too far out",
-                entry.sum
+                "side {side} of {read:?} is more than {steps} steps too far out"
             ));
         }
     }
@@ -145,18 +152,21 @@ mod tests {
             .unwrap();
         for low in -3..=3 {
             for high in -1..=5 {
-                let holds = claim(&curve, &inside, &entry, &[low, high, 0, 0]).is_ok();
+                let claim = |steps, read| claim(&curve, &inside, &entry, steps, &read).is_ok();
+                let holds = claim(entry.sum, [low, high, 0, 0]);
                 assert_eq!(
                     holds,
                     (-1..=1).contains(&low) && (1..=3).contains(&high),
                     "{low} {high}"
                 );
-                let holds = claim(&curve, &inside, &entry, &[1, 1, low, high]).is_ok();
+                let holds = claim(entry.sum, [1, 1, low, high]);
                 assert_eq!(
                     holds,
                     (-2..=0).contains(&low) && (0..=2).contains(&high),
                     "{low} {high}"
                 );
+                let exact = claim(0, [low, high, 0, 0]);
+                assert_eq!(exact, (low, high) == (1, 1), "{low} {high}");
             }
         }
     }

@@ -20,6 +20,10 @@ pub enum Row {
     Panel,
     PanelAgain,
     Claim,
+    ExactLoads,
+    ExactPieces,
+    ExactRaised,
+    EqualFractions,
     CardExample,
     CardProgram,
     CardLong,
@@ -33,7 +37,7 @@ pub enum Row {
 }
 
 /// Each row's name, and how many comparisons must agree.
-pub const ROWS: [(Row, &str, u64); 22] = [
+pub const ROWS: [(Row, &str, u64); 26] = [
     (Evaluate, "evaluate", 2_000_000),
     (Subdivide, "subdivide", 1_000_000),
     (Elevate, "elevate", 500_000),
@@ -46,12 +50,16 @@ pub const ROWS: [(Row, &str, u64); 22] = [
     (Panel, "panel", 1_000_000),
     (PanelAgain, "panel by read_card, evaluate", 1_000_000),
     (Claim, "demand 3, readings", 200_000),
+    (ExactLoads, "exact flag, sides of loads", 200_000),
+    (ExactPieces, "exact flag, sides of pieces", 30_000),
+    (ExactRaised, "exact flag, sides of raised", 20_000),
+    (EqualFractions, "exact flag, equal fractions", 100_000),
     (CardExample, "card, example of document 01", 1),
     (CardProgram, "card, cards", 500),
     (CardLong, "card, long input", 5),
     (CardPlaces, "card, every place of a refusal", 76),
     (CardSlow, "card, slow pipe", 16),
-    (ReplayExamples, "replay, examples", 13),
+    (ReplayExamples, "replay, examples", 16),
     (ReplayTexts, "replay, texts", 100),
     (ReplayDamaged, "replay, damaged texts", 500),
     (ReplayLong, "replay, long texts", 1),
@@ -75,12 +83,21 @@ pub enum Line {
     EvaluateLoad,
     EvaluateOhms,
     OhmKinds,
+    EvaluateRounded,
+    EvaluateTrivial,
+    EvaluateExact,
     SubdivideNumbers,
     SubdivideAt,
     SubdivideLeft,
     SubdivideRight,
+    SubdivideRounded,
+    SubdivideTrivial,
+    SubdivideExact,
     ElevateNumbers,
     ElevateRaised,
+    ElevateRounded,
+    ElevateTrivial,
+    ElevateExact,
     BoundsNumbers,
     BoundsRect,
     SearchNumbers,
@@ -102,9 +119,17 @@ pub enum Line {
     PanelAt,
     Changes,
     Refusals,
+    ExactReadings,
+    LoadFlags,
+    PieceFlags,
+    RaisedFlags,
+    RoundedSides,
+    ExactAfter,
+    EqualFlags,
     CardAnswers,
     Endings,
     Placed,
+    ReplayFlags,
 }
 
 /// Where an accepted parameter lies, and which limit of den it meets.
@@ -126,6 +151,14 @@ pub enum Ohm {
     Above,
     Least,
     Greatest,
+}
+
+/// What happened to the curve in a list before an evaluation.
+#[derive(Clone, Copy)]
+pub enum Before {
+    Nothing,
+    ExactChanges,
+    RoundedChange,
 }
 
 /// What a card is, and what of it is malformed.
@@ -173,7 +206,11 @@ const REACHED: Values = Words(&["neither", "-16,777,216", "16,777,216", "both"])
 const LENT: Values = Words(&["fewer", "as many", "more"]);
 const PIECES: Values = Words(&["1", "2 to 63", "64 to 1,023", "1,024 to 8,191"]);
 const FITS: Values = Words(&["one short", "exact", "one more"]);
-/// In the order of the enums At, Ohm, Kind, Malformed and CardAnswer.
+const EQUAL_FLAGS: Values = Words(&["rounded", "exact between 0 and 1", "exact at 0 or 1"]);
+/// In the order of false and true.
+const FLAGS: Values = Words(&["rounded", "exact"]);
+/// In the order of the enums Before, At, Ohm, Kind, Malformed and CardAnswer.
+const BEFORE: Values = Words(&["no change", "exact changes", "a rounded change"]);
 const AT: Values = Words(&["0", "1", "between", "den 1", "den 65,536", "den between"]);
 const OHMS: Values = Words(&["0", "below 0", "above 0", "-16,384", "16,384"]);
 const KINDS: Values = Words(&[
@@ -201,11 +238,22 @@ const REFUSED: Values = Words(&[
 ]);
 const ENDINGS: Values = Words(&["after the text", "at a bad card or line"]);
 const PLACED: Values = Words(&["shown", "too long to show"]);
+const REPLAY_FLAGS: Values = Words(&[
+    "reading rounded",
+    "reading exact",
+    "cut or raising rounded",
+    "cut or raising exact",
+]);
+
+/// The words for the lines of flags by degree.
+const ROUNDED: &str = "rounded by degree";
+const TRIVIAL: &str = "exact by degree, at 0 or 1 or of one rectangle";
+const EXACT: &str = "exact by degree, others";
 
 /// The lines by what they are about: what is counted, the values and how often each must come.
 type Group = (&'static str, &'static [(Line, &'static str, Values, u64)]);
 
-pub const GROUPS: [Group; 11] = [
+pub const GROUPS: [Group; 12] = [
     (
         "curves given",
         &[
@@ -238,6 +286,9 @@ pub const GROUPS: [Group; 11] = [
             (EvaluateLoad, "load lent", Span(0, 8), 1_000),
             (EvaluateOhms, "ohms lent", Span(0, 8), 1_000),
             (OhmKinds, "ohms stored", OHMS, 10_000),
+            (EvaluateRounded, ROUNDED, Span(1, 8), 50_000),
+            (EvaluateTrivial, TRIVIAL, Span(1, 8), 20_000),
+            (EvaluateExact, EXACT, Span(1, 8), 10_000),
         ],
     ),
     (
@@ -252,6 +303,9 @@ pub const GROUPS: [Group; 11] = [
             (SubdivideAt, "accepted at", AT, 10_000),
             (SubdivideLeft, "left lent", Span(0, 41), 1_000),
             (SubdivideRight, "right lent", Span(0, 41), 1_000),
+            (SubdivideRounded, ROUNDED, Span(1, 8), 50_000),
+            (SubdivideTrivial, TRIVIAL, Span(1, 8), 20_000),
+            (SubdivideExact, EXACT, Span(1, 8), 10_000),
         ],
     ),
     (
@@ -264,6 +318,14 @@ pub const GROUPS: [Group; 11] = [
                 1_000,
             ),
             (ElevateRaised, "raised lent", Span(0, 41), 1_000),
+            (ElevateRounded, ROUNDED, Span(1, 7), 20_000),
+            (
+                ElevateTrivial,
+                "exact by degree, of one rectangle",
+                Span(1, 7),
+                1_000,
+            ),
+            (ElevateExact, EXACT, Span(1, 7), 2_000),
         ],
     ),
     (
@@ -330,6 +392,35 @@ pub const GROUPS: [Group; 11] = [
         &[
             (Changes, "changes before", Span(0, 5), 1_000),
             (Refusals, "refused changes before", Span(0, 3), 500),
+            (
+                ExactReadings,
+                "nothing rounded, changes before",
+                Span(0, 3),
+                500,
+            ),
+        ],
+    ),
+    (
+        "exact flag",
+        &[
+            (LoadFlags, "sides of loads", FLAGS, 50_000),
+            (PieceFlags, "sides of pieces", FLAGS, 10_000),
+            (RaisedFlags, "sides of raised curves", FLAGS, 5_000),
+            // Resistance low 1, high 2, reactance low 4, high 8: up to 3 the reactance alone is exact, and
+            // at 4, 8 and 12 the resistance alone.
+            (
+                RoundedSides,
+                "rounded loads by rounded sides",
+                Span(1, 15),
+                200,
+            ),
+            (
+                ExactAfter,
+                "exact loads between 0 and 1, after",
+                BEFORE,
+                500,
+            ),
+            (EqualFlags, "equal fractions", EQUAL_FLAGS, 10_000),
         ],
     ),
     (
@@ -338,6 +429,7 @@ pub const GROUPS: [Group; 11] = [
             (CardAnswers, "card, answers", ANSWERS, 10),
             (Endings, "replay, damaged texts end", ENDINGS, 10),
             (Placed, "replay, places", PLACED, 100),
+            (ReplayFlags, "replay, exact flags", REPLAY_FLAGS, 100),
         ],
     ),
 ];
@@ -370,7 +462,7 @@ mod tests {
         let lines = GROUPS.iter().flat_map(|(_, lines)| lines.iter());
         assert!(lines
             .map(|(line, ..)| *line as usize)
-            .eq(0..=Placed as usize));
+            .eq(0..=ReplayFlags as usize));
         assert_eq!(REFUSED.named().len(), REFUSED_DEGREES.len());
     }
 }

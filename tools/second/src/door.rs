@@ -5,10 +5,12 @@ use crate::card::{card_length, card_of, curve_of};
 use crate::model::{ohms, refuse_if, Curve, Parameter, Rectangle, Refusal, MAX_DEGREE};
 use crate::search::Search;
 
-/// A call on a curve at num/den, with two buffers for its result.
-pub type AtParameter<T> = fn(u32, &[i32], u32, u32, &mut [i32], &mut [T]) -> u64;
+/// A call on a curve at num/den, with two buffers for its result and the number for its exact flag.
+pub type AtParameter<T> = fn(u32, &[i32], u32, u32, &mut [i32], &mut [T], &mut u32) -> u64;
 /// A call on a curve alone, with one buffer for its result.
 pub type OnCurve<T> = fn(u32, &[i32], &mut [T]) -> u64;
+/// Such a call with the number for its exact flag.
+pub type Elevate = fn(u32, &[i32], &mut [i32], &mut u32) -> u64;
 /// A search: a curve, a box, depth and budget, and the buffer for the verdict.
 pub type OnBox = fn(u32, &[i32], &[i32], u32, u32, &mut [u32]) -> u64;
 
@@ -17,7 +19,7 @@ pub type OnBox = fn(u32, &[i32], &[i32], u32, u32, &mut [u32]) -> u64;
 pub struct Door {
     pub evaluate: AtParameter<f32>,
     pub subdivide: AtParameter<i32>,
-    pub elevate: OnCurve<i32>,
+    pub elevate: Elevate,
     pub bounds: OnCurve<i32>,
     pub search: OnBox,
     pub read_card: fn(&[u8], &mut [i32]) -> u64,
@@ -95,12 +97,14 @@ fn evaluate(
     den: u32,
     load: &mut [i32],
     display: &mut [f32],
+    exact: &mut u32,
 ) -> u64 {
     let mut result = || {
-        let sides = given_curve(degree, sides).evaluate(Parameter { num, den })?;
+        let evaluated = given_curve(degree, sides).evaluate(Parameter { num, den })?;
         need(FOUR, &[load.len(), display.len()])?;
-        store(&sides, load);
-        display[..FOUR].copy_from_slice(&ohms(&sides));
+        store(&evaluated.result, load);
+        display[..FOUR].copy_from_slice(&ohms(&evaluated.result));
+        *exact = evaluated.exact.into();
         Ok(())
     };
     answer(result())
@@ -113,23 +117,27 @@ fn subdivide(
     den: u32,
     left: &mut [i32],
     right: &mut [i32],
+    exact: &mut u32,
 ) -> u64 {
     let mut result = || {
         let curve = given_curve(degree, sides);
-        let (up_to, from) = curve.subdivide(Parameter { num, den })?;
+        let pieces = curve.subdivide(Parameter { num, den })?;
         need(curve_length(curve.degree), &[left.len(), right.len()])?;
-        store_curve(&up_to, left);
-        store_curve(&from, right);
+        let [up_to, from] = &pieces.result;
+        store_curve(up_to, left);
+        store_curve(from, right);
+        *exact = pieces.exact.into();
         Ok(())
     };
     answer(result())
 }
 
-fn elevate(degree: u32, sides: &[i32], raised: &mut [i32]) -> u64 {
+fn elevate(degree: u32, sides: &[i32], raised: &mut [i32], exact: &mut u32) -> u64 {
     let mut result = || {
         let elevated = given_curve(degree, sides).elevate()?;
-        need(curve_length(elevated.degree), &[raised.len()])?;
-        store_curve(&elevated, raised);
+        need(curve_length(elevated.result.degree), &[raised.len()])?;
+        store_curve(&elevated.result, raised);
+        *exact = elevated.exact.into();
         Ok(())
     };
     answer(result())
@@ -191,7 +199,7 @@ fn write_card(degree: u32, sides: &[i32], card: &mut [u8]) -> u64 {
 
 fn panel(card: &[u8], num: u32, den: u32, out: &mut [u8]) -> u32 {
     let mut result = || {
-        let load = curve_of(card)?.evaluate(Parameter { num, den })?;
+        let load = curve_of(card)?.evaluate(Parameter { num, den })?.result;
         need(PANEL_BYTES, &[out.len()])?;
         for (side, bytes) in load.iter().zip(out.chunks_mut(4)) {
             bytes.copy_from_slice(&(*side as i32).to_le_bytes());
@@ -210,14 +218,24 @@ mod tests {
 
     #[test]
     fn stores_in_front_and_keeps_the_rest() {
-        let (mut load, mut display) = ([7; 5], [7.0; 5]);
-        assert_eq!(evaluate(1, &SIDES, 1, 2, &mut load, &mut display), 0);
-        assert_eq!(load, [0, 2, -2, 0, 7]);
+        let (mut load, mut display, mut exact) = ([7; 5], [7.0; 5], 7);
+        assert_eq!(
+            evaluate(1, &SIDES, 1, 2, &mut load, &mut display, &mut exact),
+            0
+        );
+        assert_eq!((load, exact), ([0, 2, -2, 0, 7], 0));
         assert_eq!(display, [0.0, 2.0 / 1_024.0, -2.0 / 1_024.0, 0.0, 7.0]);
         let (mut left, mut right) = ([7; 10], [7; 9]);
-        assert_eq!(subdivide(1, &SIDES, 1, 2, &mut left, &mut right), 0);
-        assert_eq!(left, [1, 0, 1, -3, -3, 0, 2, -2, 0, 7]);
-        assert_eq!(right, [1, 0, 2, -2, 0, 1, 3, 0, 2]);
+        assert_eq!(
+            subdivide(1, &SIDES, 0, 2, &mut left, &mut right, &mut exact),
+            0
+        );
+        assert_eq!(left, [1, 0, 1, -3, -3, 0, 1, -3, -3, 7]);
+        assert_eq!((right, exact), ([1, 0, 1, -3, -3, 1, 3, 0, 2], 1));
+        let mut raised = [7; 14];
+        assert_eq!(elevate(1, &SIDES, &mut raised, &mut exact), 0);
+        let sides = [2, 0, 1, -3, -3, 0, 2, -2, 0, 1, 3, 0, 2, 7];
+        assert_eq!((raised, exact), (sides, 0));
         let mut out = [7; 20];
         assert_eq!(panel(CARD, 1, 2, &mut out), 0);
         let sides = [0, 0, 0, 0, 2, 0, 0, 0, 254, 255, 255, 255, 0, 0, 0, 0];
@@ -227,20 +245,21 @@ mod tests {
     #[test]
     fn tries_the_buffers_last_and_says_what_is_needed() {
         let place = |place: u64, number: u64| (place << 32) | number;
-        let (mut short, mut enough) = ([7; 8], [7; 9]);
+        let (mut short, mut enough, mut exact) = ([7; 8], [7; 9], 7);
+        let mut cut = |left: &mut [i32], right: &mut [i32], num| {
+            subdivide(1, &SIDES, num, 2, left, right, &mut exact)
+        };
+        assert_eq!(cut(&mut short, &mut enough, 1), place(9, 12));
+        assert_eq!(cut(&mut enough, &mut short, 1), place(9, 12));
+        assert_eq!(cut(&mut short, &mut enough, 3), 5);
+        assert_eq!(elevate(1, &SIDES, &mut enough, &mut exact), place(13, 12));
         assert_eq!(
-            subdivide(1, &SIDES, 1, 2, &mut short, &mut enough),
-            place(9, 12)
+            evaluate(1, &SIDES, 0, 1, &mut short, &mut [0.0; 3], &mut exact),
+            place(4, 12)
         );
-        assert_eq!(
-            subdivide(1, &SIDES, 1, 2, &mut enough, &mut short),
-            place(9, 12)
-        );
-        assert_eq!(subdivide(1, &SIDES, 3, 2, &mut short, &mut enough), 5);
-        assert_eq!(elevate(1, &SIDES, &mut enough), place(13, 12));
         assert_eq!(bounds(1, &SIDES, &mut []), place(4, 12));
         assert_eq!(write_card(1, &SIDES, &mut [0; 92]), place(93, 12));
-        assert_eq!((short, enough), ([7; 8], [7; 9]));
+        assert_eq!((short, enough, exact), ([7; 8], [7; 9], 7));
         let mut out = [7; 15];
         assert_eq!(panel(CARD, 1, 2, &mut out), 12);
         assert_eq!(panel(CARD, 3, 2, &mut out), 5);

@@ -2,12 +2,21 @@
 
 use crate::call::{Call, Kept};
 use crate::given::{Given, MAX_SIDES};
+use crate::grid::Grid;
 use crate::model::{Curve, Parameter, Rectangle, MAX_DEGREE, MAX_DEN, MAX_SIDE};
 use crate::rng::Rng;
 use crate::search::{Search, MAX_BUDGET, MAX_DEPTH};
 
 pub fn degree(rng: &mut Rng) -> usize {
     1 + rng.up_to(MAX_DEGREE - 1)
+}
+
+/// An accepted curve on a grid where there is one.
+pub fn curve_on(rng: &mut Rng, degree: usize, grid: Option<Grid>) -> Curve {
+    match grid {
+        Some(grid) => grid.curve(rng, degree),
+        None => curve(rng, degree),
+    }
 }
 
 /// An accepted curve.
@@ -89,8 +98,8 @@ pub const REFUSED_DEGREES: [u32; 8] = [0, 9, 10, 257, 65_538, 1 << 31, (1 << 31)
 
 /// A curve as a call is given it: one in twelve is spoilt, some have another degree, and the slice of
 /// sides is now and then shorter or longer than the curve.
-pub fn given(rng: &mut Rng, degree: usize) -> Given {
-    let mut curve = curve(rng, degree);
+pub fn given(rng: &mut Rng, degree: usize, grid: Option<Grid>) -> Given {
+    let mut curve = curve_on(rng, degree, grid);
     if rng.one_in(12) {
         spoil(rng, &mut curve, &TOO_FAR_FOR_A_CALL);
     }
@@ -114,6 +123,14 @@ fn lengthen(rng: &mut Rng, given: &mut Given) {
         *side = rng.draw() as i32;
     }
     given.length = longer;
+}
+
+/// A parameter, three in four of them on a grid where there is one.
+pub fn parameter_on(rng: &mut Rng, grid: Option<Grid>) -> Parameter {
+    match grid {
+        Some(grid) if !rng.one_in(4) => grid.parameter(rng),
+        _ => parameter(rng),
+    }
 }
 
 /// A parameter, one in twelve of them refused.
@@ -156,30 +173,30 @@ fn refused_parameter(rng: &mut Rng) -> Parameter {
 pub const MAX_CALLS: usize = 6;
 
 /// A list of calls; one in eight changes the curve at every call but the last, which evaluates it.
-pub fn list(rng: &mut Rng, bounds: &Rectangle) -> Vec<Call> {
+pub fn list(rng: &mut Rng, bounds: &Rectangle, grid: Option<Grid>) -> Vec<Call> {
     let length = 1 + rng.up_to(MAX_CALLS - 1);
     if !rng.one_in(8) {
-        return (0..length).map(|_| call(rng, bounds)).collect();
+        return (0..length).map(|_| call(rng, bounds, grid)).collect();
     }
-    let mut calls: Vec<Call> = (1..length).map(|_| changing_call(rng)).collect();
-    calls.push(Call::Evaluate(parameter(rng)));
+    let mut calls: Vec<Call> = (1..length).map(|_| changing_call(rng, grid)).collect();
+    calls.push(Call::Evaluate(parameter_on(rng, grid)));
     calls
 }
 
-fn call(rng: &mut Rng, bounds: &Rectangle) -> Call {
+fn call(rng: &mut Rng, bounds: &Rectangle, grid: Option<Grid>) -> Call {
     match rng.below(20) {
-        0..=7 => Call::Evaluate(parameter(rng)),
-        8..=15 => changing_call(rng),
+        0..=7 => Call::Evaluate(parameter_on(rng, grid)),
+        8..=15 => changing_call(rng, grid),
         16 => Call::Bounds,
         _ => Call::Search(search(rng, bounds)),
     }
 }
 
 /// A call that leaves another curve than it got, unless it is refused.
-fn changing_call(rng: &mut Rng) -> Call {
+fn changing_call(rng: &mut Rng, grid: Option<Grid>) -> Call {
     match rng.below(3) {
-        0 => Call::Subdivide(parameter(rng), Kept::Left),
-        1 => Call::Subdivide(parameter(rng), Kept::Right),
+        0 => Call::Subdivide(parameter_on(rng, grid), Kept::Left),
+        1 => Call::Subdivide(parameter_on(rng, grid), Kept::Right),
         _ => Call::Elevate,
     }
 }
@@ -260,7 +277,7 @@ mod tests {
         let mut rng = Rng::new(3);
         let mut numbers = [0; 4];
         for k in 0..8_000 {
-            let checked = given(&mut rng, 1 + k % 8).curve().check();
+            let checked = given(&mut rng, 1 + k % 8, None).curve().check();
             numbers[checked.map_or_else(|refusal| refusal.number as usize, |()| 0)] += 1;
         }
         let [accepted, refused @ ..] = numbers;

@@ -4,6 +4,7 @@
 use crate::cards::{compare_reader, compare_writer};
 use crate::coverage::{Row, ROWS};
 use crate::door::{curve_length, given_curve, Door, MODEL};
+use crate::flag_faults::FLAG_FAULTS;
 use crate::model::low_above_high;
 use crate::rng::Rng;
 use crate::tally::Tally;
@@ -15,8 +16,8 @@ const FAULTS: [(&str, Row, Door); 18] = [
         "a low side rounded up",
         Row::Evaluate,
         Door {
-            evaluate: |degree, sides, num, den, load, ohms| {
-                let answer = (MODEL.evaluate)(degree, sides, num, den, load, ohms);
+            evaluate: |degree, sides, num, den, load, ohms, exact| {
+                let answer = (MODEL.evaluate)(degree, sides, num, den, load, ohms, exact);
                 if answer == 0 && 2 * num == den && load[0] < 0 {
                     load[0] |= 1;
                 }
@@ -29,8 +30,8 @@ const FAULTS: [(&str, Row, Door); 18] = [
         "a bit of the ohms",
         Row::Evaluate,
         Door {
-            evaluate: |degree, sides, num, den, load, ohms| {
-                let answer = (MODEL.evaluate)(degree, sides, num, den, load, ohms);
+            evaluate: |degree, sides, num, den, load, ohms, exact| {
+                let answer = (MODEL.evaluate)(degree, sides, num, den, load, ohms, exact);
                 if answer == 0 && load[1] == 16_777_215 {
                     ohms[1] = f32::from_bits(ohms[1].to_bits() ^ 1);
                 }
@@ -43,8 +44,8 @@ const FAULTS: [(&str, Row, Door); 18] = [
         "ohms of minus zero",
         Row::Evaluate,
         Door {
-            evaluate: |degree, sides, num, den, load, ohms| {
-                let answer = (MODEL.evaluate)(degree, sides, num, den, load, ohms);
+            evaluate: |degree, sides, num, den, load, ohms, exact| {
+                let answer = (MODEL.evaluate)(degree, sides, num, den, load, ohms, exact);
                 if answer == 0 && load[3] == 0 {
                     ohms[3] = -0.0;
                 }
@@ -57,8 +58,8 @@ const FAULTS: [(&str, Row, Door); 18] = [
         "ohms cleared by a refusal",
         Row::Evaluate,
         Door {
-            evaluate: |degree, sides, num, den, load, ohms| {
-                let answer = (MODEL.evaluate)(degree, sides, num, den, load, ohms);
+            evaluate: |degree, sides, num, den, load, ohms, exact| {
+                let answer = (MODEL.evaluate)(degree, sides, num, den, load, ohms, exact);
                 if answer == 5 {
                     ohms.fill(0.0);
                 }
@@ -71,11 +72,11 @@ const FAULTS: [(&str, Row, Door); 18] = [
         "12 tried first",
         Row::Evaluate,
         Door {
-            evaluate: |degree, sides, num, den, load, ohms| {
+            evaluate: |degree, sides, num, den, load, ohms, exact| {
                 if ohms.len() < 4 {
                     return 12 | (4 << 32);
                 }
-                (MODEL.evaluate)(degree, sides, num, den, load, ohms)
+                (MODEL.evaluate)(degree, sides, num, den, load, ohms, exact)
             },
             ..MODEL
         },
@@ -84,8 +85,8 @@ const FAULTS: [(&str, Row, Door); 18] = [
         "the right piece from its far end",
         Row::Subdivide,
         Door {
-            subdivide: |degree, sides, num, den, left, right| {
-                let answer = (MODEL.subdivide)(degree, sides, num, den, left, right);
+            subdivide: |degree, sides, num, den, left, right, exact| {
+                let answer = (MODEL.subdivide)(degree, sides, num, den, left, right, exact);
                 if answer == 0 {
                     let last = curve_length(degree as usize) - 4;
                     (0..4).for_each(|side| right.swap(1 + side, last + side));
@@ -99,8 +100,8 @@ const FAULTS: [(&str, Row, Door); 18] = [
         "a number past the piece",
         Row::Subdivide,
         Door {
-            subdivide: |degree, sides, num, den, left, right| {
-                let answer = (MODEL.subdivide)(degree, sides, num, den, left, right);
+            subdivide: |degree, sides, num, den, left, right, exact| {
+                let answer = (MODEL.subdivide)(degree, sides, num, den, left, right, exact);
                 if answer == 0 {
                     let past = right.get_mut(curve_length(degree as usize));
                     past.into_iter().for_each(|number| *number = 0);
@@ -114,10 +115,10 @@ const FAULTS: [(&str, Row, Door); 18] = [
         "the left piece stored though the right has no room",
         Row::Subdivide,
         Door {
-            subdivide: |degree, sides, num, den, left, right| {
-                let answer = (MODEL.subdivide)(degree, sides, num, den, left, right);
+            subdivide: |degree, sides, num, den, left, right, exact| {
+                let answer = (MODEL.subdivide)(degree, sides, num, den, left, right, exact);
                 if answer as u32 == 12 && left.len() > right.len() {
-                    (MODEL.subdivide)(degree, sides, num, den, left, &mut [0; 37]);
+                    (MODEL.subdivide)(degree, sides, num, den, left, &mut [0; 37], &mut 0);
                 }
                 answer
             },
@@ -128,10 +129,10 @@ const FAULTS: [(&str, Row, Door); 18] = [
         "missing sides taken as one",
         Row::Elevate,
         Door {
-            elevate: |degree, sides, raised| {
+            elevate: |degree, sides, raised, exact| {
                 let mut longer = [1; 44];
                 longer[..sides.len()].copy_from_slice(sides);
-                (MODEL.elevate)(degree, &longer, raised)
+                (MODEL.elevate)(degree, &longer, raised, exact)
             },
             ..MODEL
         },
@@ -140,8 +141,8 @@ const FAULTS: [(&str, Row, Door); 18] = [
         "sides read past the curve",
         Row::Elevate,
         Door {
-            elevate: |degree, sides, raised| {
-                let answer = (MODEL.elevate)(degree, sides, raised);
+            elevate: |degree, sides, raised, exact| {
+                let answer = (MODEL.elevate)(degree, sides, raised, exact);
                 let past = sides.get(4 * (degree as usize + 1)).copied().unwrap_or(0);
                 if answer == 0 && past > 16_777_216 {
                     return 2 | (u64::from(degree) << 32);
@@ -279,7 +280,7 @@ fn found(door: &Door) -> Result<(), String> {
 
 #[test]
 fn finds_every_fault() {
-    for (name, row, door) in FAULTS {
+    for (name, row, door) in FAULTS.into_iter().chain(FLAG_FAULTS) {
         let message = found(&door).expect_err(name);
         let (_, expected, _) = ROWS[row as usize];
         let first = message.lines().next();

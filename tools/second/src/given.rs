@@ -50,6 +50,13 @@ impl Given {
         given_curve(self.degree, self.sides())
     }
 
+    /// Whether all control points are the same rectangle, so that every map of them gives it again.
+    pub fn is_one_rectangle(&self) -> bool {
+        let curve = self.curve();
+        let points = curve.control_points();
+        points.iter().all(|point| *point == points[0])
+    }
+
     /// The degree, or the nearest that a curve can have.
     pub fn near_degree(&self) -> usize {
         (self.degree as usize).clamp(1, MAX_DEGREE)
@@ -80,5 +87,7 @@ mod tests {
         assert_eq!(Given::handed_on(&buffer).curve(), curve);
         buffer[0] = 300;
         assert_eq!(Given::handed_on(&buffer).curve().degree, 300);
+        assert!(!Given::exact(&curve).is_one_rectangle());
+        assert!(Given::exact(&Curve::new(&[[0, 1, 2, 3]; 9])).is_one_rectangle());
     }
 }

@@ -1,4 +1,5 @@
-//! Buffers lent to a call: filled with drawn numbers and watched as a whole, with what lies behind them.
+//! Buffers lent to a call, and the number for its exact flag: filled with drawn numbers and watched as a
+//! whole, with what lies behind them.
 
 use crate::rng::Rng;
 use std::fmt::Debug;
@@ -98,19 +99,57 @@ impl<T: Bits, const N: usize> Lent<T, N> {
     }
 }
 
+/// The number lent for the exact flag.
+pub struct LentFlag(Lent<u32, { 1 + BEHIND }>);
+
+impl LentFlag {
+    pub fn new(rng: &mut Rng) -> LentFlag {
+        LentFlag(Lent::new("exact", 1, rng))
+    }
+
+    /// The number for the model.
+    pub fn expected(&mut self) -> &mut u32 {
+        &mut self.0.expected[0]
+    }
+
+    /// The number for the call that is compared.
+    pub fn came(&mut self) -> &mut u32 {
+        &mut self.0.came[0]
+    }
+
+    /// Whether the call that is compared says that nothing was rounded.
+    pub fn says_exact(&self) -> bool {
+        self.0.came[0] == 1
+    }
+}
+
 /// A lent buffer of any kind, once both calls have had it.
 pub trait Compared {
-    /// How many numbers are lent.
-    fn length(&self) -> usize;
+    /// How many numbers are lent, where the call is told.
+    fn length(&self) -> Option<usize>;
     /// Whether every number of the buffer and behind it is as expected.
     fn agrees(&self) -> bool;
     /// Where the buffer differs: before, as expected and as it came.
     fn account(&self) -> String;
 }
 
+impl Compared for LentFlag {
+    fn length(&self) -> Option<usize> {
+        None
+    }
+
+    fn agrees(&self) -> bool {
+        self.0.agrees()
+    }
+
+    fn account(&self) -> String {
+        self.0.account()
+    }
+}
+
 impl<T: Bits, const N: usize> Compared for Lent<T, N> {
-    fn length(&self) -> usize {
-        self.length
+    fn length(&self) -> Option<usize> {
+        Some(self.length)
     }
 
     fn agrees(&self) -> bool {
@@ -150,6 +189,18 @@ mod tests {
                 changed.came[k] = f32::from_bits(changed.came[k].to_bits() ^ (1 << bit));
                 assert!(!changed.agrees(), "number {k}, bit {bit}");
             }
+        }
+    }
+
+    #[test]
+    fn lends_a_flag_that_is_neither_0_nor_1() {
+        for seed in 0..1_000 {
+            let mut flag = LentFlag::new(&mut Rng::new(seed));
+            assert!(flag.agrees() && *flag.came() > 1);
+            *flag.came() = 1;
+            assert!(flag.says_exact() && !flag.agrees());
+            *flag.expected() = 1;
+            assert!(flag.agrees());
         }
     }
 

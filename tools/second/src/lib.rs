@@ -1,11 +1,12 @@
-//! The second program: document 01 written again in ordinary Rust, from the paper and not from the
-//! proved code, and what runs it beside the proved library and the programs.
+//! The second program: document 01 and document 02's point 1 written again in ordinary Rust, from the
+//! papers and not from the proved code, and what runs it beside the proved library and the programs.
 #![forbid(unsafe_code)]
 
 // From the papers.
 pub mod card;
 pub mod claim;
 pub mod door;
+pub mod exact;
 pub mod ledger;
 pub mod model;
 pub mod natural;
@@ -16,11 +17,13 @@ pub mod call;
 pub mod damage;
 pub mod draw;
 pub mod given;
+pub mod grid;
 pub mod rng;
 
 // What is compared.
 pub mod calls;
 pub mod cards;
+pub mod flags;
 pub mod lent;
 pub mod lists;
 pub mod panel;
@@ -34,3 +37,5 @@ pub mod tally;
 
 #[cfg(test)]
 mod faults;
+#[cfg(test)]
+mod flag_faults;

@@ -3,11 +3,12 @@
 
 use crate::call::{Call, Kept};
 use crate::claim::{claim, Ordinary};
-use crate::coverage::{Line, Row};
+use crate::coverage::{Before, Line, Row};
 use crate::draw::{self, REFUSED_DEGREES};
 use crate::given::Given;
+use crate::grid::Grid;
 use crate::ledger::{Entry, Ledger};
-use crate::model::{Curve, Rectangle, MAX_SIDE};
+use crate::model::{Curve, Flagged, Rectangle, MAX_SIDE};
 use crate::trial::{Outcome, Trial, SHORT};
 
 /// Demand 3 is tried on one in so many lists.
@@ -16,28 +17,42 @@ const CLAIMED: u64 = 6;
 const NO_BOUNDS: Rectangle = [-9, 9, -9, 9];
 
 /// What a list holds between two calls: the curve left, the ledger where the starting curve is accepted,
-/// and how many subdivisions and elevations were accepted and refused.
+/// how many subdivisions and elevations were accepted and refused, and whether some accepted one rounded.
 struct List {
     given: Given,
     ledger: Option<Ledger>,
     changes: usize,
     refusals: usize,
+    rounded: bool,
 }
 
-/// An accepted evaluation: the ledger's entry, the sides that came, and what came before it.
+impl List {
+    fn before(&self) -> Before {
+        match (self.changes, self.rounded) {
+            (0, _) => Before::Nothing,
+            (_, false) => Before::ExactChanges,
+            (_, true) => Before::RoundedChange,
+        }
+    }
+}
+
+/// An accepted evaluation: the ledger's entry, the sides that came, what came before it, and whether
+/// nothing was rounded from the starting curve on.
 struct Evaluation {
     entry: Entry,
     sides: Rectangle,
     changes: usize,
     refusals: usize,
+    exact: bool,
 }
 
 /// Compares a list from a drawn curve of this degree.
 pub fn compare(trial: &mut Trial, degree: usize) -> Result<(), String> {
-    let given = draw::given(trial.rng, degree);
+    let grid = Grid::drawn(trial.rng, degree);
+    let given = draw::given(trial.rng, degree, grid);
     let start = given.curve();
     let bounds = start.bounds();
-    let calls = draw::list(trial.rng, &bounds.unwrap_or(NO_BOUNDS));
+    let calls = draw::list(trial.rng, &bounds.unwrap_or(NO_BOUNDS), grid);
     count_start(trial, &given, &start, calls.len());
     let ledger = bounds.ok().map(|_| Ledger::open(&start));
     let mut list = List {
@@ -45,6 +60,7 @@ pub fn compare(trial: &mut Trial, degree: usize) -> Result<(), String> {
         ledger,
         changes: 0,
         refusals: 0,
+        rounded: false,
     };
     let mut evaluations = Vec::new();
     for call in &calls {
@@ -78,19 +94,28 @@ fn step(trial: &mut Trial, list: &mut List, call: &Call) -> Result<Option<Evalua
     match call {
         Call::Evaluate(t) => {
             let outcome = trial.evaluate(&list.given, *t)?;
+            if let Ok(load) = &outcome {
+                trial.try_load(&list.given, *t, load, list.before())?;
+            }
             let entry = feed(list, call, &outcome);
             return evaluation(outcome, entry, list);
         }
         Call::Subdivide(t, kept) => {
             let outcome = trial.subdivide(&list.given, *t)?;
-            let outcome = outcome.map(|[left, right]| match kept {
+            if let Ok(pieces) = &outcome {
+                trial.try_pieces(&list.given, *t, pieces)?;
+            }
+            let kept = |[left, right]: [Given; 2]| match kept {
                 Kept::Left => left,
                 Kept::Right => right,
-            });
-            change(list, call, outcome);
+            };
+            change(list, call, outcome.map(|pieces| pieces.map(kept)));
         }
         Call::Elevate => {
             let outcome = trial.elevate(&list.given)?;
+            if let Ok(raised) = &outcome {
+                trial.try_raised(&list.given, raised)?;
+            }
             change(list, call, outcome);
         }
         Call::Bounds => trial.bounds(&list.given)?,
@@ -109,12 +134,13 @@ fn feed<T>(list: &mut List, call: &Call, outcome: &Outcome<T>) -> Option<Entry> 
 }
 
 /// Keeps the curve that an accepted call gave; a refused one leaves the curve it got.
-fn change(list: &mut List, call: &Call, outcome: Outcome<Given>) {
+fn change(list: &mut List, call: &Call, outcome: Outcome<Flagged<Given>>) {
     feed(list, call, &outcome);
     match outcome {
-        Ok(given) => {
-            list.given = given;
+        Ok(changed) => {
+            list.given = changed.result;
             list.changes += 1;
+            list.rounded |= !changed.exact;
         }
         Err(_) => list.refusals += 1,
     }
@@ -122,23 +148,25 @@ fn change(list: &mut List, call: &Call, outcome: Outcome<Given>) {
 
 /// The ledger must say of the same evaluations as the library that they are accepted.
 fn evaluation(
-    outcome: Outcome<[i32; 4]>,
+    outcome: Outcome<Flagged<[i32; 4]>>,
     entry: Option<Entry>,
     list: &List,
 ) -> Result<Option<Evaluation>, String> {
     match (outcome, entry) {
-        (Ok(sides), Some(entry)) => Ok(Some(Evaluation {
+        (Ok(load), Some(entry)) => Ok(Some(Evaluation {
             entry,
-            sides: sides.map(i64::from),
+            sides: load.result.map(i64::from),
             changes: list.changes,
             refusals: list.refusals,
+            exact: load.exact && !list.rounded,
         })),
         (Err(_), None) => Ok(None),
         (outcome, _) => Err(format!("the ledger and the call differ on {outcome:?}")),
     }
 }
 
-/// Demand 3 on the evaluations of one list, for ordinary curves at the corners and between.
+/// Demand 3 on the evaluations of one list, for ordinary curves at the corners and between. Where nothing
+/// was rounded, the sides are the starting curve's exact ones and none of the ledger's steps is allowed.
 fn try_claim(
     trial: &mut Trial,
     start: &Curve,
@@ -150,13 +178,18 @@ fn try_claim(
     }
     let inside = Ordinary::some_inside(start, trial.rng);
     for evaluation in evaluations {
-        let held = claim(start, &inside, &evaluation.entry, &evaluation.sides);
+        let Evaluation { entry, exact, .. } = evaluation;
+        let steps = if *exact { 0 } else { entry.sum };
+        let held = claim(start, &inside, entry, steps, &evaluation.sides);
         trial.tally.compare(Row::Claim, held.is_ok(), || {
             let points = start.control_points();
             format!("{}\nfrom {points:?}\nafter {calls:?}", held.unwrap_err())
         })?;
         trial.tally.cover(Line::Changes, evaluation.changes);
         trial.tally.cover(Line::Refusals, evaluation.refusals);
+        if *exact {
+            trial.tally.cover(Line::ExactReadings, evaluation.changes);
+        }
     }
     Ok(())
 }

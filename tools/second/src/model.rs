@@ -1,5 +1,6 @@
-//! The curve and what is done with it: document 01's operations in ordinary 64-bit arithmetic. The
-//! definitions keep to the paper's words, since this is what the proved code is compared with.
+//! The curve and what is done with it: document 01's operations in ordinary 64-bit arithmetic, with the
+//! exact flag of document 02's point 1. The definitions keep to the papers' words, since this is what the
+//! proved code is compared with.
 
 /// The largest side, in steps of 1/1,024 ohm; the least is its negative.
 pub const MAX_SIDE: i64 = 16_777_216;
@@ -23,6 +24,24 @@ pub struct Curve {
 pub struct Parameter {
     pub num: u32,
     pub den: u32,
+}
+
+/// What an operation gives, and its exact flag (the paper's lamp): whether every affine map that it
+/// made, of low and high sides, left no remainder.
+#[derive(Clone, Copy, PartialEq, Debug)]
+pub struct Flagged<T> {
+    pub result: T,
+    pub exact: bool,
+}
+
+impl<T> Flagged<T> {
+    /// Another result under the same flag.
+    pub fn map<U>(self, to: impl FnOnce(T) -> U) -> Flagged<U> {
+        Flagged {
+            result: to(self.result),
+            exact: self.exact,
+        }
+    }
 }
 
 #[derive(Clone, Copy, PartialEq, Debug)]
@@ -71,43 +90,50 @@ impl Curve {
     }
 
     /// The load at a parameter (the paper's reading): what the last stage has left.
-    pub fn evaluate(&self, t: Parameter) -> Result<Rectangle, Refusal> {
-        let (left, _) = self.subdivide(t)?;
-        Ok(left.points[self.degree])
+    pub fn evaluate(&self, t: Parameter) -> Result<Flagged<Rectangle>, Refusal> {
+        let pieces = self.subdivide(t)?;
+        Ok(pieces.map(|[left, _]| left.points[self.degree]))
     }
 
     /// The left piece and the right piece (the paper's cut): the first rectangle of each stage of de
     /// Casteljau's table, and the last of each stage from the last stage back.
-    pub fn subdivide(&self, t: Parameter) -> Result<(Curve, Curve), Refusal> {
+    pub fn subdivide(&self, t: Parameter) -> Result<Flagged<[Curve; 2]>, Refusal> {
         self.check()?;
         t.check()?;
         let n = self.degree;
         let (mut left, mut right) = (*self, *self);
         let mut stage = self.points;
+        let mut exact = true;
         for s in 1..=n {
             // Stage s has the affine maps of the neighbours in the stage before, and ends at n - s.
             for k in 0..=n - s {
-                stage[k] = affine(t, &stage[k], &stage[k + 1]);
+                let map = affine(t, &stage[k], &stage[k + 1]);
+                stage[k] = map.result;
+                exact &= map.exact;
             }
             left.points[s] = stage[0];
             right.points[n - s] = stage[n - s];
         }
-        Ok((left, right))
+        let result = [left, right];
+        Ok(Flagged { result, exact })
     }
 
     /// The same curve by control points of one degree more (the paper's raising).
-    pub fn elevate(&self) -> Result<Curve, Refusal> {
+    pub fn elevate(&self) -> Result<Flagged<Curve>, Refusal> {
         self.check()?;
         refuse_if(self.degree == MAX_DEGREE, 6, 0)?;
         let n = self.degree;
-        let mut elevated = Curve::ZERO;
-        elevated.degree = n + 1;
+        let mut result = Curve::ZERO;
+        result.degree = n + 1;
+        let mut exact = true;
         for k in 0..=n + 1 {
             let before = if k == 0 { [0; 4] } else { self.points[k - 1] };
             let here = if k == n + 1 { [0; 4] } else { self.points[k] };
-            elevated.points[k] = weighted(k as i64, &before, (n + 1 - k) as i64, &here);
+            let map = weighted(k as i64, &before, (n + 1 - k) as i64, &here);
+            result.points[k] = map.result;
+            exact &= map.exact;
         }
-        Ok(elevated)
+        Ok(Flagged { result, exact })
     }
 
     /// The least rectangle that holds all control points (the paper's span).
@@ -130,6 +156,11 @@ impl Parameter {
         refuse_if(self.den < 1 || self.den > MAX_DEN, 4, 0)?;
         refuse_if(self.num > self.den, 5, 0)
     }
+
+    /// Whether it is 0 or 1.
+    pub fn is_end(&self) -> bool {
+        self.num == 0 || self.num == self.den
+    }
 }
 
 pub fn out_of_range(rectangle: &Rectangle) -> bool {
@@ -143,15 +174,19 @@ pub fn low_above_high(rectangle: &Rectangle) -> bool {
 }
 
 /// The affine map of two rectangles.
-fn affine(t: Parameter, a: &Rectangle, b: &Rectangle) -> Rectangle {
+fn affine(t: Parameter, a: &Rectangle, b: &Rectangle) -> Flagged<Rectangle> {
     weighted((t.den - t.num).into(), a, t.num.into(), b)
 }
 
-/// (p × a + q × b) / (p + q) of all four sides, rounded outward.
-fn weighted(p: i64, a: &Rectangle, q: i64, b: &Rectangle) -> Rectangle {
-    let low = |side: usize| (p * a[side] + q * b[side]).div_euclid(p + q);
-    let high = |side: usize| -(-(p * a[side] + q * b[side])).div_euclid(p + q);
-    [low(0), high(1), low(2), high(3)]
+/// (p × a + q × b) / (p + q) of all four sides, rounded outward, and whether no division left a remainder.
+fn weighted(p: i64, a: &Rectangle, q: i64, b: &Rectangle) -> Flagged<Rectangle> {
+    let sum = |side: usize| p * a[side] + q * b[side];
+    let low = |side: usize| sum(side).div_euclid(p + q);
+    let high = |side: usize| -(-sum(side)).div_euclid(p + q);
+    Flagged {
+        result: [low(0), high(1), low(2), high(3)],
+        exact: (0..4).all(|side| sum(side).rem_euclid(p + q) == 0),
+    }
 }
 
 /// The four single-precision ohms of a load: each side's step count divided by 1,024.
@@ -173,7 +208,7 @@ fn ohm_bits(side: i64) -> u32 {
         size << (23 - leading)
     };
     let sign = u32::from(side < 0);
-    (sign << 31) | ((leading - 10 + 127) << 23) | (after & 0x007f_ffff)
+    (sign << 31) | ((leading + 127 - 10) << 23) | (after & 0x007f_ffff)
 }
 
 #[cfg(test)]
@@ -195,24 +230,28 @@ mod tests {
         Parameter { num, den }
     }
 
+    fn load(curve: &Curve, num: u32, den: u32) -> Rectangle {
+        curve.evaluate(at(num, den)).unwrap().result
+    }
+
     fn number<T>(answer: Result<T, Refusal>) -> u32 {
         answer.err().map_or(0, |refusal| refusal.number)
     }
 
     #[test]
     fn evaluates_in_rounded_stages() {
-        assert_eq!(values(&[1, 0, 3]).evaluate(at(1, 2)), Ok([0, 2, 0, 0]));
-        assert_eq!(values(&[1, 0, 3]).evaluate(at(0, 1)), Ok([1, 1, 0, 0]));
-        assert_eq!(values(&[1, 0, 3]).evaluate(at(7, 7)), Ok([3, 3, 0, 0]));
+        assert_eq!(load(&values(&[1, 0, 3]), 1, 2), [0, 2, 0, 0]);
+        assert_eq!(load(&values(&[1, 0, 3]), 0, 1), [1, 1, 0, 0]);
+        assert_eq!(load(&values(&[1, 0, 3]), 7, 7), [3, 3, 0, 0]);
         let card = Curve::new(&[[0, 1, -3, -3], [1, 3, 0, 2]]);
-        assert_eq!(card.evaluate(at(1, 2)), Ok([0, 2, -2, 0]));
-        assert_eq!(card.evaluate(at(2, 4)), Ok([0, 2, -2, 0]));
+        assert_eq!(load(&card, 1, 2), [0, 2, -2, 0]);
+        assert_eq!(load(&card, 2, 4), [0, 2, -2, 0]);
         assert_eq!(card.bounds(), Ok([0, 3, -3, 2]));
     }
 
     #[test]
     fn subdivides_into_the_two_edges_of_the_table() {
-        let (left, right) = values(&[1, 0, 3]).subdivide(at(1, 2)).unwrap();
+        let [left, right] = values(&[1, 0, 3]).subdivide(at(1, 2)).unwrap().result;
         assert_eq!(resistances(&left), [[1, 1], [0, 1], [0, 2]]);
         assert_eq!(resistances(&right), [[0, 2], [1, 2], [3, 3]]);
         assert_eq!([left.points[3], right.points[3]], [[0; 4]; 2]);
@@ -220,11 +259,53 @@ mod tests {
 
     #[test]
     fn elevates_rounding_once() {
-        let elevated = values(&[0, 1]).elevate().unwrap();
+        let elevated = values(&[0, 1]).elevate().unwrap().result;
         assert_eq!(resistances(&elevated), [[0, 0], [0, 1], [1, 1]]);
-        let elevated = values(&[0, 0, -1]).elevate().unwrap();
+        let elevated = values(&[0, 0, -1]).elevate().unwrap().result;
         assert_eq!(resistances(&elevated)[2], [-1, 0]);
         assert_eq!(number(values(&[0; 9]).elevate()), 6);
+    }
+
+    /// The flag of the load and of the pieces at a parameter, which are equal.
+    fn exact(curve: &Curve, num: u32, den: u32) -> bool {
+        let exact = curve.evaluate(at(num, den)).unwrap().exact;
+        assert_eq!(curve.subdivide(at(num, den)).unwrap().exact, exact);
+        exact
+    }
+
+    #[test]
+    fn is_exact_where_no_map_left_a_remainder() {
+        assert!(exact(&values(&[0, 4]), 1, 2) && exact(&values(&[0, 4]), 2, 8));
+        assert!(!exact(&values(&[0, 4]), 1, 3));
+        assert!(!exact(&values(&[1, 0, 3]), 1, 2));
+        assert!(exact(&values(&[1, 0, 3]), 0, 1) && exact(&values(&[1, 0, 3]), 7, 7));
+        // The first stage rounds a low side down and the next one's maps leave no remainder.
+        assert!(!exact(&values(&[0, 1, 0]), 1, 2));
+        assert_eq!(load(&values(&[0, 1, 0]), 1, 2), [0, 1, 0, 0]);
+    }
+
+    #[test]
+    fn is_exact_in_every_side_or_not_at_all() {
+        // The resistance [2, 2] is exact, but the reactance is 1/2.
+        let line = Curve::new(&[[0; 4], [4, 4, 1, 1]]);
+        assert_eq!(load(&line, 1, 2), [2, 2, 0, 1]);
+        assert!(!exact(&line, 1, 2));
+        for side in 0..4 {
+            let mut one_side = Curve::new(&[[-4, 4, -4, 4]; 2]);
+            assert!(exact(&one_side, 1, 2));
+            one_side.points[1][side] += 1;
+            assert!(!exact(&one_side, 1, 2), "side {side}");
+            assert!(!one_side.elevate().unwrap().exact, "side {side}");
+        }
+    }
+
+    #[test]
+    fn is_exact_in_every_elevated_point_or_not_at_all() {
+        assert!(!values(&[0, 1]).elevate().unwrap().exact);
+        assert!(values(&[0, 2]).elevate().unwrap().exact);
+        // By thirds: the second point is exact, the third is not.
+        assert!(!values(&[0, 3, 4]).elevate().unwrap().exact);
+        assert!(values(&[0, 3, 6]).elevate().unwrap().exact);
     }
 
     #[test]

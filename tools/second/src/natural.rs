@@ -155,6 +155,18 @@ impl Integer {
     pub fn at_most(&self, other: &Integer) -> bool {
         self.added.plus(&other.taken) <= other.added.plus(&self.taken)
     }
+
+    pub fn equals(&self, other: &Integer) -> bool {
+        self.added.plus(&other.taken) == other.added.plus(&self.taken)
+    }
+}
+
+/// The greatest common divisor of two numbers, not both 0.
+pub fn common_divisor(a: u128, b: u128) -> u128 {
+    if b == 0 {
+        return a;
+    }
+    common_divisor(b, a % b)
 }
 
 #[cfg(test)]
@@ -213,9 +225,10 @@ mod tests {
                 let one = Natural::from(1);
                 let (mut left, right) = (Integer::product(a, &one), Integer::product(b, &one));
                 assert_eq!(left.at_most(&right), a <= b);
+                assert_eq!(left.equals(&right), a == b);
                 left.add_product(b, &one);
                 let sum = Integer::product(a + b, &one);
-                assert!(left.at_most(&sum) && sum.at_most(&left));
+                assert!(left.at_most(&sum) && sum.at_most(&left) && left.equals(&sum));
             }
         }
     }

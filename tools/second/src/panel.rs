@@ -70,10 +70,10 @@ fn by_calls(trial: &Trial, card: &[u8], t: Parameter) -> Outcome<[i32; FOUR]> {
     };
     let mut curve = [0; curve_length(MAX_DEGREE)];
     accepted((trial.door.read_card)(card, &mut curve))?;
-    let (mut load, mut ohms) = ([0; FOUR], [0.0; FOUR]);
+    let (mut load, mut ohms, mut exact) = ([0; FOUR], [0.0; FOUR], 0);
     let (degree, sides) = (curve[0] as u32, &curve[1..]);
     accepted((trial.door.evaluate)(
-        degree, sides, t.num, t.den, &mut load, &mut ohms,
+        degree, sides, t.num, t.den, &mut load, &mut ohms, &mut exact,
     ))?;
     Ok(load)
 }

@@ -33,7 +33,7 @@ struct Piece {
 impl Piece {
     /// The two halves, the left one last, since the list is taken from its end.
     fn halves(&self) -> Result<[Piece; 2], Refusal> {
-        let (left, right) = self.curve.subdivide(MIDDLE)?;
+        let [left, right] = self.curve.subdivide(MIDDLE)?.result;
         let half = |curve, index| Piece {
             curve,
             depth: self.depth + 1,

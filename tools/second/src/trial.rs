@@ -88,12 +88,12 @@ impl Trial<'_> {
     ) {
         let (number, place) = number_and_place(expected);
         self.tally.cover(counted.numbers, number as usize);
-        let shortest = buffers.iter().map(|buffer| buffer.length()).min();
-        let shortest = shortest.expect("a buffer for the result");
+        let lengths = || buffers.iter().filter_map(|buffer| buffer.length());
+        let shortest = lengths().min().expect("a buffer for the result");
         match number {
             ACCEPTED | SHORT => {
-                for (line, buffer) in counted.lengths.iter().zip(buffers) {
-                    self.tally.cover(*line, buffer.length());
+                for (line, length) in counted.lengths.iter().zip(lengths()) {
+                    self.tally.cover(*line, length);
                 }
                 // One short, exact or one more.
                 let fits = (shortest + 1).checked_sub(needed).filter(|fits| *fits < 3);

@@ -26,7 +26,7 @@ fn taken(input: &[u8]) -> &[u8] {
 /// The lines printed: the bounds and the load at 1/2, or the refusal.
 fn printed(input: &[u8]) -> Result<Vec<u8>, Refusal> {
     let curve = curve_of(taken(input))?;
-    let load = curve.evaluate(Parameter { num: 1, den: 2 })?;
+    let load = curve.evaluate(Parameter { num: 1, den: 2 })?.result;
     Ok([line_of(&curve.bounds()?), line_of(&load)].concat())
 }
 

@@ -1,5 +1,5 @@
 //! Document 01's examples as texts for `replay`, with the answers that the paper gives, and a few more
-//! along its limits, worked by hand. A stroke ends a line; the numbers are set into columns.
+//! along its limits and for document 02's exact flag, worked by hand. A stroke ends a line; the numbers are set into columns.
 
 use crate::card::line_of;
 
@@ -12,31 +12,31 @@ pub const PRINTED: &[u8] = b"         0         3        -3         2
          0         2        -2         0
 ";
 
-const EXAMPLES: [(&str, &str); 13] = [
+const EXAMPLES: [(&str, &str); 16] = [
     // The card read at 1/2 and at 2/4, its two ends and its bounds.
     (
         "1 / 0 1 -3 -3 / 1 3 0 2 / 1 1 2 / 1 2 4 / 1 0 1 / 1 7 7 / 5 / 0",
-        "0 1 / 0 0 2 -2 0 1 / 0 0 2 -2 0 1 / 0 0 1 -3 -3 1 / 0 1 3 0 2 1 / 0 0 3 -3 2",
+        "0 1 / 0 0 2 -2 0 1 0 / 0 0 2 -2 0 1 0 / 0 0 1 -3 -3 1 1 / 0 1 3 0 2 1 1 / 0 0 3 -3 2",
     ),
     // Values 1, 0, 3 evaluated and subdivided.
     (
         "2 / 1 1 0 0 / 0 0 0 0 / 3 3 0 0 / 1 1 2 / 2 1 2 / 0",
-        "0 2 / 0 0 2 0 0 2 / 0 2 1 1 0 0 0 1 0 0 0 2 0 0 0 2 0 0 1 2 0 0 3 3 0 0",
+        "0 2 / 0 0 2 0 0 2 0 / 0 2 1 1 0 0 0 1 0 0 0 2 0 0 0 2 0 0 1 2 0 0 3 3 0 0 0",
     ),
     // The same in the other coordinate; the right piece is kept and read at its ends.
     (
         "2 / 0 0 1 1 / 0 0 0 0 / 0 0 3 3 / 3 1 2 / 1 0 1 / 1 1 1 / 0",
-        "0 2 / 0 2 0 0 1 1 0 0 0 1 0 0 0 2 0 0 0 2 0 0 1 2 0 0 3 3 / 0 0 0 0 2 4 / 0 0 0 3 3 4",
+        "0 2 / 0 2 0 0 1 1 0 0 0 1 0 0 0 2 0 0 0 2 0 0 1 2 0 0 3 3 0 / 0 0 0 0 2 4 1 / 0 0 0 3 3 4 1",
     ),
     // Values 0, 1 elevated, then read: the ledger's sum is 1 and 2.
     (
         "1 / 0 0 0 0 / 1 1 0 0 / 4 / 1 0 1 / 0",
-        "0 1 / 0 2 0 0 0 0 0 1 0 0 1 1 0 0 / 0 0 0 0 0 3",
+        "0 1 / 0 2 0 0 0 0 0 1 0 0 1 1 0 0 0 / 0 0 0 0 0 3 1",
     ),
     // Values 0, 0, -1 elevated: the third is [-1, 0].
     (
         "2 / 0 0 0 0 / 0 0 0 0 / -1 -1 0 0 / 4 / 0",
-        "0 2 / 0 3 0 0 0 0 0 0 0 0 -1 0 0 0 -1 -1 0 0",
+        "0 2 / 0 3 0 0 0 0 0 0 0 0 -1 0 0 0 -1 -1 0 0 0",
     ),
     // The farthest side, and one step more.
     ("1 / 0 16777216 0 0 / 0 0 -16777216 0 / 5 / 0", "0 1 / 0 0 16777216 -16777216 0"),
@@ -44,7 +44,7 @@ const EXAMPLES: [(&str, &str); 13] = [
     // The limits of a parameter.
     (
         "1 / 0 0 0 0 / 1 1 0 0 / 1 0 65536 / 1 0 0 / 2 0 65537 / 3 1 0 / 1 8 7 / 0",
-        "0 1 / 0 0 0 0 0 1 / 4 0 / 4 0 / 4 0 / 5 0",
+        "0 1 / 0 0 0 0 0 1 1 / 4 0 / 4 0 / 4 0 / 5 0",
     ),
     // The searches.
     (
@@ -61,11 +61,26 @@ const EXAMPLES: [(&str, &str); 13] = [
     // Raising stops at degree 8, and a refused call leaves the curve and the ledger.
     (
         "8 / 0 0 0 0 / 0 0 0 0 / 0 0 0 0 / 0 0 0 0 / 0 0 0 0 / 0 0 0 0 / 0 0 0 0 / 0 0 0 0 / 9 9 0 0 / 4 / 1 1 1 / 0",
-        "0 8 / 6 0 / 0 9 9 0 0 8",
+        "0 8 / 6 0 / 0 9 9 0 0 8 1",
     ),
     (
         "1 / 0 0 0 0 / 4 4 0 0 / 3 1 2 / 3 3 2 / 1 1 2 / 0",
-        "0 1 / 0 1 0 0 0 0 2 2 0 0 2 2 0 0 4 4 0 0 / 5 0 / 0 3 3 0 0 2",
+        "0 1 / 0 1 0 0 0 0 2 2 0 0 2 2 0 0 4 4 0 0 1 / 5 0 / 0 3 3 0 0 2 1",
+    ),
+    // The resistance [2, 2] is exact, the reactance is 1/2: dark, read, cut and raised.
+    (
+        "1 / 0 0 0 0 / 4 4 1 1 / 1 1 2 / 4 / 2 1 2 / 0",
+        "0 1 / 0 2 2 0 1 1 0 / 0 2 0 0 0 0 2 2 0 1 4 4 1 1 0 / 0 2 0 0 0 0 1 1 0 1 2 2 0 1 2 2 0 1 3 3 0 1 4 4 1 1 0",
+    ),
+    // Values 0, 2 raised are exact; values 0, 1, 2 read at 1/2 are not, and at 1 they are.
+    (
+        "1 / 0 0 0 0 / 2 2 0 0 / 4 / 1 1 2 / 1 2 2 / 0",
+        "0 1 / 0 2 0 0 0 0 1 1 0 0 2 2 0 0 1 / 0 0 2 0 0 3 0 / 0 2 2 0 0 3 1",
+    ),
+    // What a cut has rounded before does not darken a reading.
+    (
+        "1 / 0 1 0 0 / 5 5 0 0 / 2 1 2 / 1 1 2 / 0",
+        "0 1 / 0 1 0 1 0 0 2 3 0 0 2 3 0 0 5 5 0 0 0 / 0 1 2 0 0 2 1",
     ),
 ];
 

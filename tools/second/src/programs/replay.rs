@@ -2,6 +2,7 @@
 //! a text is malformed.
 
 use crate::call::{Call, Kept};
+use crate::card::{COLUMN, LINE_END};
 use crate::coverage::{Line, Row};
 use crate::damage::damage;
 use crate::draw::{curve, parameter};
@@ -47,7 +48,9 @@ pub fn compare_cases(program: &Path, rng: &mut Rng, tally: &mut Tally) -> Result
     for places in [false, true] {
         compare(program, &text, places, Row::ReplayTexts, tally)?;
     }
-    count_places(&answers_to(&text, true).lines, tally);
+    let answers = answers_to(&text, true).lines;
+    let lines = answers.split(|byte| *byte == LINE_END);
+    lines.for_each(|line| count_line(line, tally));
     Ok(())
 }
 
@@ -102,15 +105,19 @@ fn cases_text(cases: usize, rng: &mut Rng) -> Vec<u8> {
     (0..cases).flat_map(|_| text_of(&case(rng))).collect()
 }
 
-/// Counts the evaluations whose place is shown, and those whose place is too long.
-fn count_places(lines: &[u8], tally: &mut Tally) {
-    const EVALUATED: usize = 60;
-    for line in lines.split(|byte| *byte == b'\n') {
-        if line.len() >= EVALUATED && line.contains(&b'/') {
-            tally.cover(Line::Placed, 0);
-        } else if line.len() == EVALUATED {
-            tally.cover(Line::Placed, 1);
-        }
+/// The bytes of an evaluation's answer; those with rectangles are longer, all others are shorter.
+const EVALUATED: usize = 7 * COLUMN;
+
+/// Counts an answer with an exact flag by the flag in its last column, and an evaluation by whether its
+/// place is shown or too long.
+fn count_line(line: &[u8], tally: &mut Tally) {
+    let shown = line.contains(&b'/');
+    let lit = |end: usize| usize::from(line[end - 1] == b'1');
+    if shown || line.len() == EVALUATED {
+        tally.cover(Line::Placed, usize::from(!shown));
+        tally.cover(Line::ReplayFlags, lit(EVALUATED));
+    } else if line.len() > EVALUATED {
+        tally.cover(Line::ReplayFlags, 2 + lit(line.len()));
     }
 }
 

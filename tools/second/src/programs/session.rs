@@ -3,7 +3,8 @@
 use crate::call::{Call, Kept};
 use crate::card::line_of;
 use crate::ledger::{Entry, Ledger};
-use crate::model::{Curve, Refusal};
+use crate::model::{Curve, Flagged, Rectangle, Refusal};
+use crate::natural::common_divisor;
 
 /// What `replay` holds between two lines. A refused card has no ledger.
 pub struct Session {
@@ -38,23 +39,27 @@ impl Session {
         let mut answer = vec![0];
         match call {
             Call::Evaluate(t) => {
-                answer.extend(self.curve.evaluate(*t)?);
-                return Ok(self.evaluated(answer, &entry.expect("an accepted evaluation")));
+                let load = self.curve.evaluate(*t)?;
+                return Ok(self.evaluated(&load, &entry.expect("an accepted evaluation")));
             }
             Call::Subdivide(t, kept) => {
-                let (left, right) = self.curve.subdivide(*t)?;
+                let pieces = self.curve.subdivide(*t)?;
+                let [left, right] = pieces.result;
                 answer.push(self.curve.degree as i64);
                 answer.extend(left.control_points().as_flattened());
                 answer.extend(right.control_points().as_flattened());
+                answer.push(pieces.exact.into());
                 self.curve = match kept {
                     Kept::Left => left,
                     Kept::Right => right,
                 };
             }
             Call::Elevate => {
-                self.curve = self.curve.elevate()?;
+                let elevated = self.curve.elevate()?;
+                self.curve = elevated.result;
                 answer.push(self.curve.degree as i64);
                 answer.extend(self.curve.control_points().as_flattened());
+                answer.push(elevated.exact.into());
             }
             Call::Bounds => answer.extend(self.curve.bounds()?),
             Call::Search(search) => answer.extend(search.over(&self.curve)?.map(i64::from)),
@@ -62,10 +67,11 @@ impl Session {
         Ok(line_of(&answer))
     }
 
-    /// The line of an evaluation: the ledger's sum, and behind two spaces the place.
-    fn evaluated(&self, mut answer: Vec<i64>, entry: &Entry) -> Vec<u8> {
-        answer.push(entry.sum);
-        let mut line = line_of(&answer);
+    /// The line of an evaluation: the sides, the ledger's sum, the exact flag, and behind two spaces the
+    /// place.
+    fn evaluated(&self, load: &Flagged<Rectangle>, entry: &Entry) -> Vec<u8> {
+        let last = [entry.sum, load.exact.into()];
+        let mut line = line_of(&[&[0], &load.result[..], &last].concat());
         if let Some(place) = self.places.then(|| shown(entry)).flatten() {
             line.pop();
             line.extend(format!("  {place}\n").into_bytes());
@@ -88,13 +94,6 @@ pub fn shown(entry: &Entry) -> Option<String> {
     (lower <= LARGEST).then(|| format!("{upper}/{lower}"))
 }
 
-fn common_divisor(a: u128, b: u128) -> u128 {
-    if b == 0 {
-        return a;
-    }
-    common_divisor(b, a % b)
-}
-
 #[cfg(test)]
 mod tests {
     use super::*;
@@ -109,7 +108,7 @@ mod tests {
         session.answer(&Call::Subdivide(t(2, 4), Kept::Right));
         let read = session.answer(&Call::Evaluate(t(3, 6)));
         assert!(
-            read.ends_with(b"         2  3/4\n"),
+            read.ends_with(b"         2         0  3/4\n"),
             "{}",
             read.escape_ascii()
         );
@@ -124,6 +123,10 @@ mod tests {
         );
         session.answer(&Call::Subdivide(t(1, 7), Kept::Left));
         let read = session.answer(&Call::Evaluate(t(1, 1 << 15)));
-        assert!(read.ends_with(b"         6\n"), "{}", read.escape_ascii());
+        assert!(
+            read.ends_with(b"         6         0\n"),
+            "{}",
+            read.escape_ascii()
+        );
     }
 }

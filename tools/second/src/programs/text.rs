@@ -2,7 +2,8 @@
 
 use crate::call::{Call, Kept};
 use crate::card::{card_of, line_of, number_of, COLUMN, LINE_END};
-use crate::draw::{curve, degree, list, spoil, TOO_FAR_FOR_A_CARD};
+use crate::draw::{curve_on, degree, list, spoil, TOO_FAR_FOR_A_CARD};
+use crate::grid::Grid;
 use crate::model::{Curve, Parameter, MAX_DEGREE};
 use crate::programs::session::Session;
 use crate::rng::Rng;
@@ -22,8 +23,9 @@ pub struct Case {
 /// A drawn case; one card in twelve is spoilt.
 pub fn case(rng: &mut Rng) -> Case {
     let degree = degree(rng);
-    let mut card = curve(rng, degree);
-    let calls = list(rng, &card.bounds().expect("an accepted curve"));
+    let grid = Grid::drawn(rng, degree);
+    let mut card = curve_on(rng, degree, grid);
+    let calls = list(rng, &card.bounds().expect("an accepted curve"), grid);
     if rng.one_in(12) {
         spoil(rng, &mut card, &TOO_FAR_FOR_A_CARD);
     }
