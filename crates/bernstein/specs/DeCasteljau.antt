@@ -27,6 +27,6 @@ module _ {A : Type 0} (map : A → A → A) (P : ℕ → A) where
   unfoldable pub right : ℕ → ℕ → A
   right n k = table (n - k) k
 
-  -- whether a test holds of every two neighbours that the table of degree n maps: entries k and k + 1 of stage j, in each stage j below n those with k below n − j
+  -- whether a test holds of every two neighbours that the table of degree n maps: entries k and k + 1 of stage j, for j below n and k below n − j
   unfoldable pub everyMap : (A → A → Bool) → ℕ → Bool
   everyMap test n = allBelow n (λ j. allBelow (n - j) (λ k. test (table j k) (table j (suc k))))

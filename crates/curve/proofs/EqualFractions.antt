@@ -14,7 +14,7 @@ use Rattle.bernstein.specs.DeCasteljau as DeCasteljau
 use Rattle.curve.specs.declared.Rect.{Rect}
 use Rattle.curve.specs.declared.Refusal.{Refusal}
 use Rattle.curve.specs.Rect.{side, affineRect, exactRect}
-use Rattle.curve.specs.Curve.{point, curveOf, mapAt, loadOf, leftOf, rightOf, tableExact}
+use Rattle.curve.specs.Curve.{point, curveOf, mapAt, exactAt, loadOf, leftOf, rightOf, tableExact}
 use Rattle.curve.specs.Refusals.{_orElse_, curveRefusal}
 use Rattle.curve.specs.Calls.{callRefusal}
 use Rattle.curve.specs.Promises.{EqualFractions}
@@ -65,7 +65,7 @@ module _ (num den num′ den′ : ℕ) (positive : 0 < den) (positive′ : 0 < d
   map-equal : mapAt num den ≡ mapAt num′ den′
   map-equal = fun-ext (λ p. fun-ext (λ q. affine-rect-equal (den - num) num den (den′ - num′) num′ den′ positive positive′ rest same p q))
 
-  test-equal : exactRect (den - num) num den ≡ exactRect (den′ - num′) num′ den′
+  test-equal : exactAt num den ≡ exactAt num′ den′
   test-equal = fun-ext (λ p. fun-ext (λ q. tests-equal (den - num) num den (den′ - num′) num′ den′ positive positive′ rest same p q))
 
 pub equal-fractions : EqualFractions

@@ -17,9 +17,10 @@ use Rattle.curve.specs.declared.Evaluation.{Evaluation}
 use Rattle.curve.specs.declared.Rect.{Rect}
 use Rattle.curve.specs.declared.Subdivision.{Subdivision}
 use Rattle.curve.specs.Rect.{Coordinate, side, exactRect}
-use Rattle.curve.specs.Curve.{point, mapAt, tableExact, elevatedExact, elevationExact}
-use Rattle.curve.specs.Calls.{callRefusal, elevationRefusal}
-use Rattle.curve.specs.Promises.{SameFlag, LitEnds, LitAccepted}
+use Rattle.curve.specs.Curve.{point, mapAt, exactAt, tableExact, elevatedExact, elevationExact}
+use Rattle.curve.specs.Refusals.{Accepted, AcceptedAt}
+use Rattle.curve.specs.Calls.{callRefusal, elevationRefusal, evaluated}
+use Rattle.curve.specs.Promises.{SameFlag, Lit, LitEnds, LitAccepted}
 use Rattle.curve.proofs.Refused.{by-number}
 use Rattle.curve.proofs.Accepted.{call-accepted, elevation-accepted, parameter-facts}
 use Rattle.curve.proofs.Answers.{evaluated-accepted, evaluated-refused, subdivided-refused, elevated-refused}
@@ -49,9 +50,9 @@ lit-accepted = record {
 -- ---- both ends
 
 -- a test that holds of any two points
-all-lit : (c : Curve) (num den : ℕ) → ((p q : Rect) → exactRect (den - num) num den p q ≡ true) → tableExact c num den ≡ true
+all-lit : (c : Curve) (num den : ℕ) → ((p q : Rect) → exactAt num den p q ≡ true) → tableExact c num den ≡ true
 unfolding tableExact
-all-lit c num den all = every-of (mapAt num den) (exactRect (den - num) num den) (point c) (c .degree) (λ j k h. all _ _)
+all-lit c num den all = every-of (mapAt num den) (exactAt num den) (point c) (c .degree) (λ j k h. all _ _)
 
 module _ (c : Curve) (den : ℕ) (positive : 0 < den) where
   lit-first : tableExact c 0 den ≡ true
@@ -60,12 +61,15 @@ module _ (c : Curve) (den : ℕ) (positive : 0 < den) where
   lit-last : tableExact c den den ≡ true
   lit-last = all-lit c den den (λ p q. ap (λ (s : ℕ). exactRect s den den p q) (sub-self den) ∙ exact-rect-second den positive p q)
 
+both-lit : (c : Curve) (num den : ℕ) → Accepted c → AcceptedAt num den → tableExact c num den ≡ true → Lit c num den
+both-lit c num den a h lit =
+    let first : evaluated c num den .exact ≡ true = ap (λ (e : Evaluation). e .exact) (evaluated-accepted c num den a h) ∙ lit in
+    (first, sym (same-flag c num den) ∙ first)
+
 pub lit-ends : LitEnds
 lit-ends c den a h =
-    let positive = parameter-facts den den h .factors .positive in (
-      ap (λ (e : Evaluation). e .exact) (evaluated-accepted c 0 den a (start-accepted den h)) ∙ lit-first c den positive,
-      ap (λ (e : Evaluation). e .exact) (evaluated-accepted c den den a h) ∙ lit-last c den positive,
-    )
+    let positive = parameter-facts den den h .factors .positive in
+    (both-lit c 0 den a (start-accepted den h) (lit-first c den positive), both-lit c den den a h (lit-last c den positive))
 
 -- ---- what a lit flag says of each side
 
@@ -78,7 +82,7 @@ module _ (c : Curve) (x : Coordinate) (r : Rounding) where
   table-lit num den lit j k h =
       let same = side-table x r (point c) (den - num) num den in
       subst₂ (λ (a b : ℤ). affineExact (den - num) num den a b ≡ true) (same j k) (same j (suc k))
-      (exact-sides (den - num) num den _ _ (every-at (mapAt num den) (exactRect (den - num) num den) (point c) (c .degree) lit j k h) x r)
+      (exact-sides (den - num) num den _ _ (every-at (mapAt num den) (exactAt num den) (point c) (c .degree) lit j k h) x r)
 
   pub elevation-lit :
       elevationExact c ≡ true → (k : ℕ) → k ≤ c .degree + 1 →

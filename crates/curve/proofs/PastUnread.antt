@@ -15,7 +15,7 @@ use Rattle.curve.specs.declared.Curve.{Curve}
 use Rattle.curve.specs.declared.Refusal.{Refusal}
 use Rattle.curve.specs.Limits.{maxDegree}
 use Rattle.curve.specs.Rect.{sidesInRange, sidesOrdered, affineRect, exactRect, hull}
-use Rattle.curve.specs.Curve.{point, SameCurve, curveOf, mapAt, loadOf, leftOf, rightOf, tableExact, elevatedPoint, elevatedOf, elevatedExact, elevationExact, hullTo, boundsOf}
+use Rattle.curve.specs.Curve.{point, SameCurve, curveOf, mapAt, exactAt, loadOf, leftOf, rightOf, tableExact, elevatedPoint, elevatedOf, elevatedExact, elevationExact, hullTo, boundsOf}
 use Rattle.curve.specs.Refusals.{refusal, _orElse_, unless, firstFailing, rangeRefusal, orderRefusal, curveRefusal, parameterRefusal, highestRefusal}
 use Rattle.curve.specs.Calls.{callRefusal, elevationRefusal}
 use Rattle.curve.specs.Promises.{PastUnread}
@@ -117,7 +117,7 @@ past-unread c e same =
     let n = c .degree in
     let agree = same .controls in
     let flags : (num den : ℕ) → tableExact c num den ≡ tableExact e num den = λ num den.
-    unread c e same (λ m P. DeCasteljau.everyMap (mapAt num den) P (exactRect (den - num) num den) m) (every-agree (mapAt num den) (exactRect (den - num) num den) n agree) in (
+    unread c e same (λ m P. DeCasteljau.everyMap (mapAt num den) P (exactAt num den) m) (every-agree (mapAt num den) (exactAt num den) n agree) in (
       λ num den. evaluated-equal c e num den num den (call-refusals c e same num den)
           (unread c e same (λ m P. DeCasteljau.value (mapAt num den) P m) (load-agree n agree (mapAt num den)))
           (flags num den),

@@ -42,6 +42,10 @@ pub record SameCurve (c e : Curve) : Type 0 where
 abbrev pub mapAt : ℕ → ℕ → Rect → Rect → Rect
 mapAt num den = affineRect (den - num) num den
 
+-- whether that map leaves no remainder
+abbrev pub exactAt : ℕ → ℕ → Rect → Rect → Bool
+exactAt num den = exactRect (den - num) num den
+
 -- the load at num/den, and the control points of the two pieces there, off one table (000, equations 18 and 19)
 unfoldable pub loadOf : Curve → ℕ → ℕ → Rect
 loadOf c num den = DeCasteljau.value (mapAt num den) (point c) (c .degree)
@@ -52,10 +56,10 @@ leftOf c num den = curveOf (c .degree) (DeCasteljau.left (mapAt num den) (point 
 unfoldable pub rightOf : Curve → ℕ → ℕ → Curve
 rightOf c num den = curveOf (c .degree) (DeCasteljau.right (mapAt num den) (point c) (c .degree))
 
--- the exact flag of the load and of the pieces (document 02: the lamp): true, lit, if no map of the table left a remainder.
--- False, dark, says that some map was rounded, and not that a side is wrong.
+-- the exact flag of the load and of both pieces (document 02: the lamp). Lit, true: no map of the table left a remainder.
+-- Dark, false: some map was rounded; that is not to say which side, or that it is wrong.
 unfoldable pub tableExact : Curve → ℕ → ℕ → Bool
-tableExact c num den = DeCasteljau.everyMap (mapAt num den) (point c) (exactRect (den - num) num den) (c .degree)
+tableExact c num den = DeCasteljau.everyMap (mapAt num den) (point c) (exactAt num den) (c .degree)
 
 -- control point k of the curve of degree n + 1: (k × P(k−1) + (n + 1 − k) × P(k)) / (n + 1); at k = 0 and k = n + 1 the absent point has factor 0
 unfoldable pub elevatedPoint : ℕ → (ℕ → Rect) → ℕ → Rect

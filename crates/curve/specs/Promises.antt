@@ -29,11 +29,13 @@ EndPoints =
 abbrev pub SameFlag : Type 0
 SameFlag = (c : Curve) (num den : ℕ) → evaluated c num den .exact ≡ subdivided c num den .exact
 
--- at 0/den and at den/den they are lit
+-- both are lit
+abbrev pub Lit : Curve → ℕ → ℕ → Type 0
+Lit c num den = (evaluated c num den .exact ≡ true) × (subdivided c num den .exact ≡ true)
+
+-- so they are at 0/den and at den/den
 abbrev pub LitEnds : Type 0
-LitEnds =
-    (c : Curve) (den : ℕ) → Accepted c → AcceptedAt den den →
-    (evaluated c 0 den .exact ≡ true) × (evaluated c den den .exact ≡ true)
+LitEnds = (c : Curve) (den : ℕ) → Accepted c → AcceptedAt den den → Lit c 0 den × Lit c den den
 
 -- only an accepted call is lit: a refused one's flag is dark
 pub record LitAccepted : Type 0 where

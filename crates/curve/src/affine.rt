@@ -135,6 +135,7 @@ fn affine_interval(i: Interval, j: Interval, w: Weights) -> IntervalMap
     }
 }
 
+// All four sides.
 pub fn affine_rect(p: Rect, q: Rect, w: Weights) -> RectMap
     requires { ⌜ Held p ⌝ }
     requires { ⌜ Held q ⌝ }

@@ -27,6 +27,7 @@ pub fn elevated_points(c: Curve) -> Elevated
 {
     let n = c.degree as usize;
     let d = (n + 1) as u64;
+    // The part of the factor 1, of which the others are multiples.
     let unit = (SCALE + d - 1) / d;
     let turns = turns_of(d);
     let mut points = [zero_rect(); PLACES];

@@ -1,7 +1,7 @@
 -- `table_of` meets its contract. The invariant: in stage j + 1 the first k maps are made. The measure is what is left of the stages, and of the maps in each.
 -- Assumes nothing.
 use mathlib.Core.Path.{_≡_, sym, ap, _∙_, subst, subst₂}
-use mathlib.Core.Bool.{Bool, _&&_}
+use mathlib.Core.Bool.{_&&_}
 use mathlib.Core.List.{List}
 use Prim.Native.Nat.{ℕ, suc, _+_, _*_, _-_, _≤_, _<_}
 use native.Mathlib.Omega.{arith}
@@ -10,7 +10,7 @@ use lib.ListN.{getD, set}
 use Rattle.curve.specs.declared.Rect.{Rect}
 use Rattle.curve.specs.Limits.{maxDegree, places}
 use Rattle.curve.specs.Rect.{affineRect, exactRect, zeroRect}
-use Rattle.curve.specs.Curve.{point, pointsOf, leftOf, rightOf, tableExact}
+use Rattle.curve.specs.Curve.{point, pointsOf, mapAt, exactAt, leftOf, rightOf, tableExact}
 use Rattle.curve.specs.Inner.{Held}
 use Rattle.curve.proofs.Places.{points-at, points-agree}
 use Rattle.curve.proofs.Stages.{table-held}
@@ -22,20 +22,13 @@ use Rattle.curve.proofs.table.table_of.Tie as tie
 abbrev controls : List Rect → ℕ → Rect
 controls l k = getD l k zeroRect
 
--- the map of the parameter, and whether it leaves no remainder
-abbrev mapOf : ℕ → ℕ → Rect → Rect → Rect
-mapOf num den = affineRect (den - num) num den
-
-abbrev testOf : ℕ → ℕ → Rect → Rect → Bool
-testOf num den = exactRect (den - num) num den
-
 abbrev Inv-loop : tie.InvT-loop
 Inv-loop num den n w table₀ j₀ k₀ table j k =
     (n ≤ maxDegree)
     × (j ≤ n)
     × (k ≤ n - j)
     × (j < n → k < n - j)
-    × Made (mapOf num den) (testOf num den) (controls (table₀ .right)) n j k table
+    × Made (mapAt num den) (exactAt num den) (controls (table₀ .right)) n j k table
 
 abbrev μ-loop : tie.MeasureT-loop
 μ-loop num den n w table₀ j₀ k₀ table j k = (n - j) * (places + 1) - k
@@ -83,7 +76,7 @@ loop-holds c =
       omega arith,
       omega arith,
       (λ h. omega arith),
-      made-start (mapOf (a .num) (a .den)) (testOf (a .num) (a .den)) P n (c .first-table .result) (first .0 ∙ agree 0 (omega arith)) (first .1 ∙ agree n (omega arith)) (first .2),
+      made-start (mapAt (a .num) (a .den)) (exactAt (a .num) (a .den)) P n (c .first-table .result) (first .0 ∙ agree 0 (omega arith)) (first .1 ∙ agree n (omega arith)) (first .2),
     )
 
 mul-p : tie.Need-mul-p Inv-loop μ-loop
@@ -112,7 +105,7 @@ held c i from to =
     let p = startOf t .pre in
     let P = controls (t .first-table .result .right) in
     let few = p .0 .few in
-    subst Held (sym (made-entry (mapOf (a .num) (a .den)) (testOf (a .num) (a .den)) P n (omega arith) (l .j) (l .k) (l .table) (l .inv .4) i from to))
+    subst Held (sym (made-entry (mapAt (a .num) (a .den)) (exactAt (a .num) (a .den)) P n (omega arith) (l .j) (l .k) (l .table) (l .inv .4) i from to))
     (table-held (a .den - a .num) (a .num) (a .den) P n (p .1) (λ k h. subst Held (sym (same t k h)) (p .0 .held k h)) (l .j) i to)
 
 affine-rect-requires : tie.Need-affine-rect-requires Inv-loop μ-loop
@@ -156,7 +149,7 @@ mapped : (c : tie.After-affine-rect Inv-loop μ-loop) →
     let t = turnOf c .before .before in
     let a = startOf t .args in
     let r = c .affine-rect .result in
-    Made (mapOf (a .num) (a .den)) (testOf (a .num) (a .den)) (controls (t .first-table .result .right)) (a .c .degree) (l .j) (l .k + 1)
+    Made (mapAt (a .num) (a .den)) (exactAt (a .num) (a .den)) (controls (t .first-table .result .right)) (a .c .degree) (l .j) (l .k + 1)
     (record { left = l .table .left; right = set (l .table .right) (l .k) (r .rect); exact = l .table .exact && r .exact })
 mapped c =
     let l = turnOf c .before .loop in
@@ -168,10 +161,10 @@ mapped c =
     let r = c .affine-rect .result in
     let p = getD (l .table .right) (l .k) zeroRect in
     let q = getD (l .table .right) (l .k + 1) zeroRect in
-    let made : (r .rect ≡ mapOf (a .num) (a .den) p q) × (r .exact ≡ testOf (a .num) (a .den) p q) =
+    let made : (r .rect ≡ mapAt (a .num) (a .den) p q) × (r .exact ≡ exactAt (a .num) (a .den) p q) =
     subst₂ (λ (x d : ℕ). (r .rect ≡ affineRect s x d p q) × (r .exact ≡ exactRect s x d p q)) (w .0) (w .1)
     (c .affine-rect .ensures s (subst₂ (λ (x d : ℕ). s + x ≡ d) (sym (w .0)) (sym (w .1)) (startOf t .pre .1 .total))) in
-    made-map (mapOf (a .num) (a .den)) (testOf (a .num) (a .den)) (controls (t .first-table .result .right)) (a .c .degree) (omega arith) (l .j) (l .k) (l .table) (l .inv .4)
+    made-map (mapAt (a .num) (a .den)) (exactAt (a .num) (a .den)) (controls (t .first-table .result .right)) (a .c .degree) (omega arith) (l .j) (l .k) (l .table) (l .inv .4)
     (r .rect) (r .exact) (made .0) (made .1) (inside (turnOf c))
 
 loop-again : tie.Need-loop-again Inv-loop μ-loop
@@ -188,7 +181,7 @@ loop-again c =
       omega arith,
       omega arith,
       (λ h. omega arith),
-      made-stage (mapOf (a .num) (a .den)) (testOf (a .num) (a .den)) (controls (t .first-table .result .right)) n (omega arith) (l .j) (l .k + 1) _ (mapped m) last (omega arith),
+      made-stage (mapAt (a .num) (a .den)) (exactAt (a .num) (a .den)) (controls (t .first-table .result .right)) n (omega arith) (l .j) (l .k + 1) _ (mapped m) last (omega arith),
     )
 
 loop-less-2 : tie.Need-loop-less-2 Inv-loop μ-loop
@@ -208,7 +201,7 @@ returns c =
     let l = c .before .loop in
     let t = c .before .before in
     let a = startOf t .args in
-    made-end (mapOf (a .num) (a .den)) (testOf (a .num) (a .den)) (controls (t .first-table .result .right)) (a .c .degree) (l .j) (l .k) (l .table) (l .inv .4) (omega arith) (omega arith) (point (a .c)) (same t)
+    made-end (mapAt (a .num) (a .den)) (exactAt (a .num) (a .den)) (controls (t .first-table .result .right)) (a .c .degree) (l .j) (l .k) (l .table) (l .inv .4) (omega arith) (omega arith) (point (a .c)) (same t)
 
 pub table-of-spec : {M : Type 1} → statement M
 table-of-spec =
