@@ -1,6 +1,6 @@
 -- What a map's weights give: the estimate of its quotient is off by less than 1, its numbers fit their types, and counted from the lifted start the quotient reaches the map.
 -- Assumes nothing.
-use mathlib.Core.Path.{_≡_, refl, sym, ap, ap₂, _∙_}
+use mathlib.Core.Path.{_≡_, refl, sym, ap, ap₂, _∙_, subst₂}
 use Prim.Native.Nat.{ℕ, _+_, _*_, _-_, _/_, _^_, _≤_, _<_}
 use native.Mathlib.Nat.{mul-le-mul, mul-le-mul-left, mul-le-mul-right, le-of-mul-le-mul-right, lt-of-mul-lt-mul-right, div-mul-le-self, lt-div-mul-add}
 use native.Mathlib.Omega.{arith}
@@ -14,8 +14,11 @@ use Rattle.rational.proofs.Order.{≤ℤ-trans, ≤ℤ-reflexive, negℤ-anti, 
 use Rattle.rational.proofs.Quotient.{quotient-shift, quotient-least}
 use Rattle.rational.proofs.Divisible.{divisible-shift}
 use Rattle.bernstein.specs.Affine.{affine, affineExact}
+use Rattle.curve.specs.declared.Rect.{Rect}
+use Rattle.curve.specs.declared.affine.RectMap.{RectMap}
 use Rattle.curve.specs.declared.affine.Weights.{Weights}
 use Rattle.curve.specs.Limits.{maxDen}
+use Rattle.curve.specs.Rect.{affineRect, exactRect}
 use Rattle.curve.specs.Inner.{Side, Part, Weighed, scale, turnsOf}
 use Rattle.curve.proofs.Sides.{within-fits}
 use Rattle.curve.proofs.Estimate.{estimate-low, estimate-high}
@@ -161,6 +164,17 @@ start-fits {a} ha w h =
     let small : w .back ≤ 33619967 = omega arith in
     within-fits 50397182 (a -ℤ pos (w .back)) (omega arith) (+ℤ-mono (ha .from) (negℤ-anti (pos-mono small)))
     (≤ℤ-trans (+ℤ-mono (ha .to) (negℤ-anti (pos-mono {m = 0} {n = w .back} (omega arith)))) (pos-mono {m = 16777216} {n = 50397183} (omega arith)))
+
+-- ---- two rectangles
+
+-- a map for the weights of t and den, as its caller names its factors
+pub mapped-by :
+    (m : RectMap) (w : Weights) (p q : Rect) →
+    ((s : ℕ) → s + w .t ≡ w .den → (m .rect ≡ affineRect s (w .t) (w .den) p q) × (m .exact ≡ exactRect s (w .t) (w .den) p q)) →
+    (s t d : ℕ) → w .t ≡ t → w .den ≡ d → s + t ≡ d → (m .rect ≡ affineRect s t d p q) × (m .exact ≡ exactRect s t d p q)
+mapped-by m w p q is s t d factor divisor total =
+    subst₂ (λ (x y : ℕ). (m .rect ≡ affineRect s x y p q) × (m .exact ≡ exactRect s x y p q)) factor divisor
+    (is s (subst₂ (λ (x y : ℕ). s + x ≡ y) (sym factor) (sym divisor) total))
 
 -- ---- the weights
 

@@ -1,6 +1,6 @@
 -- `elevated_points` meets its contract. The invariant: the places up to k are filled. The measure is what is left of them.
 -- Assumes nothing.
-use mathlib.Core.Path.{_≡_, sym, ap, ap₂, _∙_, subst₂}
+use mathlib.Core.Path.{_≡_, sym, ap, ap₂, _∙_}
 use mathlib.Core.Bool.{Bool, _&&_}
 use mathlib.Core.List.{List}
 use Prim.Native.Nat.{ℕ, _+_, _-_, _≤_, _<_}
@@ -15,7 +15,7 @@ use Rattle.curve.specs.declared.Rect.{Rect}
 use Rattle.curve.specs.Rect.{affineRect, exactRect}
 use Rattle.curve.specs.Curve.{point, pointsOf, elevatedPoint, elevatedExact, elevationExact}
 use Rattle.curve.proofs.Places.{points-first, points-next}
-use Rattle.curve.proofs.Weighing.{part-times, part-fits}
+use Rattle.curve.proofs.Weighing.{mapped-by, part-times, part-fits}
 use Rattle.curve.proofs.ElevatedPoints.{elevated-first, elevated-last, elevated-next, exact-first, exact-last, exact-next}
 use Rattle.curve.proofs.elevating.elevated_points.Statement.{statement}
 use Rattle.curve.proofs.elevating.elevated_points.Tie as tie
@@ -133,11 +133,8 @@ made c =
     let k = c .before .before .before .before .before .loop .k in
     let a = startOf (c .before .before .before .before .before .before) .args .t1 in
     let n = a .degree in
-    let r = c .affine-rect .result in
     let w = c .before .weights-of .ensures in
-    let total : k + 1 + (n + 1 - (k + 1)) ≡ n + 1 = omega arith in
-    subst₂ (λ (t d : ℕ). (r .rect ≡ affineRect (k + 1) t d (point a k) (point a (k + 1))) × (r .exact ≡ exactRect (k + 1) t d (point a k) (point a (k + 1)))) (w .0) (w .1)
-    (c .affine-rect .ensures (k + 1) (subst₂ (λ (t d : ℕ). k + 1 + t ≡ d) (sym (w .0)) (sym (w .1)) total))
+    mapped-by (c .affine-rect .result) (c .before .weights-of .result) (point a k) (point a (k + 1)) (c .affine-rect .ensures) (k + 1) (n + 1 - (k + 1)) (n + 1) (w .0) (w .1) (omega arith)
 
 loop-again : tie.Need-loop-again Inv-loop μ-loop
 loop-again c =

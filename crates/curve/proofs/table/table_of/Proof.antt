@@ -1,6 +1,6 @@
 -- `table_of` meets its contract. The invariant: in stage j + 1 the first k maps are made. The measure is what is left of the stages, and of the maps in each.
 -- Assumes nothing.
-use mathlib.Core.Path.{_≡_, sym, ap, _∙_, subst, subst₂}
+use mathlib.Core.Path.{_≡_, sym, ap, _∙_, subst}
 use mathlib.Core.Bool.{_&&_}
 use mathlib.Core.List.{List}
 use Prim.Native.Nat.{ℕ, suc, _+_, _*_, _-_, _≤_, _<_}
@@ -9,11 +9,12 @@ use borrow.Author.Needs.{needs}
 use lib.ListN.{getD, set}
 use Rattle.curve.specs.declared.Rect.{Rect}
 use Rattle.curve.specs.Limits.{maxDegree, places}
-use Rattle.curve.specs.Rect.{affineRect, exactRect, zeroRect}
+use Rattle.curve.specs.Rect.{zeroRect}
 use Rattle.curve.specs.Curve.{point, pointsOf, mapAt, exactAt, leftOf, rightOf, tableExact}
 use Rattle.curve.specs.Inner.{Held}
 use Rattle.curve.proofs.Places.{points-at, points-agree}
 use Rattle.curve.proofs.Stages.{table-held}
+use Rattle.curve.proofs.Weighing.{mapped-by}
 use Rattle.curve.proofs.MadeTable.{Made, made-start, made-entry, made-map, made-stage, made-end}
 use Rattle.curve.proofs.table.table_of.Statement.{statement}
 use Rattle.curve.proofs.table.table_of.Tie as tie
@@ -155,15 +156,12 @@ mapped c =
     let l = turnOf c .before .loop in
     let t = turnOf c .before .before in
     let a = startOf t .args in
-    let s = a .den - a .num in
     let few = startOf t .pre .0 .few in
     let w = t .before .weights-at .ensures in
     let r = c .affine-rect .result in
     let p = getD (l .table .right) (l .k) zeroRect in
     let q = getD (l .table .right) (l .k + 1) zeroRect in
-    let made : (r .rect ≡ mapAt (a .num) (a .den) p q) × (r .exact ≡ exactAt (a .num) (a .den) p q) =
-    subst₂ (λ (x d : ℕ). (r .rect ≡ affineRect s x d p q) × (r .exact ≡ exactRect s x d p q)) (w .0) (w .1)
-    (c .affine-rect .ensures s (subst₂ (λ (x d : ℕ). s + x ≡ d) (sym (w .0)) (sym (w .1)) (startOf t .pre .1 .total))) in
+    let made = mapped-by r (t .before .weights-at .result) p q (c .affine-rect .ensures) (a .den - a .num) (a .num) (a .den) (w .0) (w .1) (startOf t .pre .1 .total) in
     made-map (mapAt (a .num) (a .den)) (exactAt (a .num) (a .den)) (controls (t .first-table .result .right)) (a .c .degree) (omega arith) (l .j) (l .k) (l .table) (l .inv .4)
     (r .rect) (r .exact) (made .0) (made .1) (inside (turnOf c))
 
