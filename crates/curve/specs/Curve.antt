@@ -68,10 +68,11 @@ elevatedPoint n P k = affineRect k (n + 1 - k) (n + 1) (P (k - 1)) (P k)
 unfoldable pub elevatedOf : Curve → Curve
 elevatedOf c = curveOf (c .degree + 1) (elevatedPoint (c .degree) (point c))
 
--- its exact flag: true if no map left a remainder, for k from 0 to n + 1
+-- whether its map leaves no remainder
 unfoldable pub elevatedExact : ℕ → (ℕ → Rect) → ℕ → Bool
 elevatedExact n P k = exactRect k (n + 1 - k) (n + 1) (P (k - 1)) (P k)
 
+-- the exact flag of the elevated curve. Lit: no map left a remainder, for k from 0 to n + 1
 unfoldable pub elevationExact : Curve → Bool
 elevationExact c = DeCasteljau.allBelow (c .degree + 2) (elevatedExact (c .degree) (point c))
 
