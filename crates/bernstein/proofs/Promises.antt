@@ -18,7 +18,7 @@ pub exact-affine : (x a b : Frac) → rat (exactAffine x a b) ≡ mix rationals 
 unfolding mix
 exact-affine x a b = rat-add (complement x *ᶠ a) (x *ᶠ b) ∙ ap₂ _+ℚ_ (rat-mul (complement x) a) (rat-mul x b)
 
-pub exact-table :
+exact-table :
     (x : Frac) (p : ℕ → Frac) (j k : ℕ) →
     rat (table (exactAffine x) p j k) ≡ table (mix rationals (rat (complement x)) (rat x)) (λ k. rat (p k)) j k
 exact-table x = table-image (exactAffine x) (mix rationals (rat (complement x)) (rat x)) rat (exact-affine x)

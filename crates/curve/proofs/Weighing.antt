@@ -36,7 +36,7 @@ module _ (by : ℕ) (w : Weights) (far : by ≤ 33554432 + w .lift) (h : Weighed
       let both : w .part * w .den ≤ (scale + 1023) * w .den = omega arith in
       le-of-mul-le-mul-right both (h .factor .positive)
 
-  pub by-small : by ≤ 67174399
+  by-small : by ≤ 67174399
   by-small = let low = h .low in omega arith
 
   -- the two products fit 64 bits

@@ -109,6 +109,6 @@ examples =
     ∷ (upperOf exactResistance gives timesLower (pos 2) exactResistance)
     ∷ []
 
--- every example of the list is answered as the document says
+-- every example of the list is answered as the documents say
 abbrev pub Agree : Type 0
 Agree = map (λ (e : Example). e .answer) examples ≡ map (λ (e : Example). e .document) examples
