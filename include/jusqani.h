@@ -25,6 +25,9 @@
  *   10  the card has fewer than 11 bytes, or not the length for its degree; place: its length, 2^32 - 1 if longer
  *   11  a column is malformed, or a line does not end with byte 10; place: the offset of the column or the line end
  *   12  a buffer for the result is too short; place: the length that is needed
+ *   13  a measured number is not finite, a load is beyond 16,384 ohms either way, or a spread is not 0 to 16,384 ohms;
+ *       place: 0 the resistance, 1 the reactance, 2 the spread
+ *   14  with the spread a side is out of range (16,384 ohms either way); place: 0 the resistance, 1 the reactance
  *
  * A call tries them in the order in which its paragraph lists them, 12 last. A refused call changes no buffer. A call
  * that is not refused stores its result in front of each buffer that it is lent for it, and what lies past the result
@@ -36,8 +39,8 @@
  * map was rounded. Equal fractions num/den give equal flags. A refused call leaves *exact as it was, so look at the
  * answer first.
  *
- * The caller provides valid buffers of the stated lengths; one that a call writes, *exact too, overlaps no other. A
- * pointer must not be null, also where its length is 0. The calls keep no pointer and always return.
+ * The caller provides valid buffers of the stated lengths; one that a call writes, *exact and *found too, overlaps no
+ * other. A pointer must not be null, also where its length is 0. The calls keep no pointer and always return.
  */
 #ifndef JUSQANI_H
 #define JUSQANI_H
@@ -58,6 +61,10 @@ extern "C" {
 #define JUSQANI_CURVE_LENGTH(n) (1 + 4 * ((n) + 1))
 #define JUSQANI_VERDICT_LENGTH 4
 #define JUSQANI_CARD_LENGTH(n) (11 + 41 * ((n) + 1))
+
+/* What jusqani_enclose found. */
+#define JUSQANI_NO_CARRIER 1
+#define JUSQANI_ENCLOSED 2
 
 /*
  * Evaluates the curve at num/den. The load's four sides are stored in load, and the same in ohms, with nothing lost,
@@ -102,6 +109,17 @@ uint64_t jusqani_bounds(uint32_t degree, const int32_t *sides, size_t sides_leng
 uint64_t jusqani_search(uint32_t degree, const int32_t *sides, size_t sides_length, const int32_t *limits,
                         size_t limits_length, uint32_t depth, uint32_t budget, uint32_t *verdict,
                         size_t verdict_length);
+
+/*
+ * Encloses what the bridge measured in a rectangle of whole steps. The length of ohms tells the form: 0 numbers are no
+ * carrier, 2 are a load (resistance, reactance), 3 a load with a spread. Of a single number the reactance is missing,
+ * which counts as not a number, and numbers past the third are not read. *found becomes JUSQANI_NO_CARRIER, which is a
+ * normal result without a rectangle, or JUSQANI_ENCLOSED, and the rectangle's four sides are then stored in rect: the
+ * smallest one that holds the load, its low sides less and its high sides plus the spread, rounded up to steps. Minus
+ * zero counts as zero. Refusals 13, 14 and 12: there is a rectangle, and rect is shorter than 4. A refusal changes
+ * neither rect nor *found; no carrier changes no number of rect.
+ */
+uint64_t jusqani_enclose(const float *ohms, size_t ohms_length, int32_t *rect, size_t rect_length, uint32_t *found);
 
 /*
  * Reads the card in card[0 .. card_length). Its curve is stored in curve. Refusals 10 (shorter than a first line), 11
