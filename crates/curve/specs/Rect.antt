@@ -6,6 +6,7 @@ use lib.IntN.{ℤ, pos, negℤ}
 use lib.Signed.{leZ, _≤ℤ_}
 use mathlib.Core.Bool.{Bool, _&&_, cond}
 use Rattle.rational.specs.Rounding.{Rounding, down, up}
+use Rattle.rational.specs.Fraction.{Frac, whole, _≤ᶠ_}
 use Rattle.bernstein.specs.Affine.{affine, affineExact}
 use Rattle.curve.specs.declared.Interval.{Interval}
 use Rattle.curve.specs.declared.Rect.{Rect}
@@ -56,6 +57,11 @@ sidesOrdered p = endsOrdered (p .resistance) && endsOrdered (p .reactance)
 abbrev pub Outward : Rounding → ℤ → ℤ → Type 0
 Outward down a b = b ≤ℤ a
 Outward up a b = a ≤ℤ b
+
+-- a value on the inner side of a side, edges included: at least a low, at most a high
+abbrev pub Bounded : Rounding → Frac → ℤ → Type 0
+Bounded down v s = whole s ≤ᶠ v
+Bounded up v s = v ≤ᶠ whole s
 
 -- the first rectangle lies inside the second, edges included
 pub record Inside (inner outer : Rect) : Type 0 where

@@ -50,7 +50,7 @@ fn in_range(side: i32) -> bool
     MIN_SIDE <= side && side <= MAX_SIDE
 }
 
-fn ends_in_range(i: Interval) -> bool
+pub fn ends_in_range(i: Interval) -> bool
     ensures { λ r. ⌜ r ≡ endsInRange i ⌝ }
 {
     in_range(i.low) && in_range(i.high)

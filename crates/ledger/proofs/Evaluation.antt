@@ -17,11 +17,11 @@ use Rattle.bernstein.proofs.Convex.{order-excess, excess-order}
 use Rattle.bernstein.proofs.Curve.{curve, curve-at, bernstein-curve}
 use Rattle.bernstein.proofs.Rounded.{Side, over, under, Near, error, table-near}
 use Rattle.curve.specs.declared.Curve.{Curve}
-use Rattle.curve.specs.Rect.{Coordinate, side}
+use Rattle.curve.specs.Rect.{Coordinate, side, Bounded}
 use Rattle.curve.specs.Curve.{point, loadOf}
 use Rattle.curve.specs.Inner.{Factors}
 use Rattle.curve.proofs.Points.{sides, side-value}
-use Rattle.ledger.specs.Ordinary.{Ordinary, InsideOf, Bounded, loadAt, exactSide}
+use Rattle.ledger.specs.Ordinary.{Ordinary, InsideOf, loadAt, exactSide}
 use Rattle.ledger.specs.Ledger.{parameter}
 use Rattle.ledger.specs.Claim as Claim
 use Rattle.ledger.specs.Claim.{Sound}

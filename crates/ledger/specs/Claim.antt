@@ -8,10 +8,10 @@ use Rattle.rational.specs.Rounding.{Rounding, down, up}
 use Rattle.rational.specs.Fraction.{Frac, _+ᶠ_, _≤ᶠ_, whole}
 use Rattle.curve.specs.declared.Curve.{Curve}
 use Rattle.curve.specs.declared.Rect.{Rect}
-use Rattle.curve.specs.Rect.{Coordinate, side}
+use Rattle.curve.specs.Rect.{Coordinate, side, Bounded}
 use Rattle.curve.specs.Refusals.{none, Accepted, AcceptedAt}
 use Rattle.curve.specs.Calls.{evaluated}
-use Rattle.ledger.specs.Ordinary.{Ordinary, InsideOf, Bounded, loadAt, exactSide}
+use Rattle.ledger.specs.Ordinary.{Ordinary, InsideOf, loadAt, exactSide}
 use Rattle.ledger.specs.Ledger.{Ledger, Call, evaluate, subdivide, elevate, opened, parameter, placeOf, refused, after, refusalOf, leaves}
 
 -- a side is not farther out than the exact side by more than d steps

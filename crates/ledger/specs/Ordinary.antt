@@ -2,23 +2,17 @@
 -- Assumes nothing.
 use mathlib.Core.Path.{_≡_}
 use Prim.Native.Nat.{ℕ, _≤_}
-use lib.IntN.{ℤ}
-use Rattle.rational.specs.Rounding.{Rounding, down, up}
-use Rattle.rational.specs.Fraction.{Frac, whole, _≤ᶠ_}
+use Rattle.rational.specs.Rounding.{Rounding}
+use Rattle.rational.specs.Fraction.{Frac, whole}
 use Rattle.bernstein.specs.Bernstein.{bernstein}
 use Rattle.curve.specs.declared.Curve.{Curve}
-use Rattle.curve.specs.Rect.{Coordinate, side}
+use Rattle.curve.specs.Rect.{Coordinate, side, Bounded}
 use Rattle.curve.specs.Curve.{point}
 
 -- an ordinary curve: its degree, and coordinate x of control point k in steps
 pub record Ordinary : Type 0 where
   pub degree : ℕ
   pub control : Coordinate → ℕ → Frac
-
--- a value on the inner side of a side, edges included: at least a low, at most a high
-abbrev pub Bounded : Rounding → Frac → ℤ → Type 0
-Bounded down v s = whole s ≤ᶠ v
-Bounded up v s = v ≤ᶠ whole s
 
 -- the ordinary curve is inside the curve's rectangles
 pub record InsideOf (o : Ordinary) (c : Curve) : Type 0 where

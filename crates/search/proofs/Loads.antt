@@ -16,11 +16,11 @@ use Rattle.bernstein.proofs.Curve.{curve, bernstein-curve}
 use Rattle.bernstein.proofs.Rounded.{Near}
 use Rattle.curve.specs.declared.Rect.{Rect}
 use Rattle.curve.specs.declared.Curve.{Curve}
-use Rattle.curve.specs.Rect.{Coordinate, side, Outward, Inside}
+use Rattle.curve.specs.Rect.{Coordinate, side, Outward, Inside, Bounded}
 use Rattle.curve.specs.Curve.{point}
 use Rattle.curve.specs.Calls.{bounded}
 use Rattle.curve.proofs.BoundsLeast.{least-bounds}
-use Rattle.ledger.specs.Ordinary.{Ordinary, InsideOf, Bounded, loadAt}
+use Rattle.ledger.specs.Ordinary.{Ordinary, InsideOf, loadAt}
 use Rattle.ledger.proofs.Evaluation.{inward, inward-none, bounded-near, near-bounded}
 use Rattle.search.specs.Promises.{LoadIn}
 use Rattle.search.proofs.Dyadic.{Along}

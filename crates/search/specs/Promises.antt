@@ -8,10 +8,10 @@ use Rattle.rational.specs.Rounding.{Rounding}
 use Rattle.rational.specs.Fraction.{Frac, whole, _≤ᶠ_}
 use Rattle.curve.specs.declared.Rect.{Rect}
 use Rattle.curve.specs.declared.Curve.{Curve}
-use Rattle.curve.specs.Rect.{Coordinate, side}
+use Rattle.curve.specs.Rect.{Coordinate, side, Bounded}
 use Rattle.curve.specs.Curve.{SameCurve}
 use Rattle.curve.specs.Calls.{bounded}
-use Rattle.ledger.specs.Ordinary.{Ordinary, InsideOf, Bounded, loadAt}
+use Rattle.ledger.specs.Ordinary.{Ordinary, InsideOf, loadAt}
 use Rattle.ledger.specs.Ledger.{parameter}
 use Rattle.search.specs.Limits.{maxBudget}
 use Rattle.search.specs.Verdict.{Report, reported, inside, outside, spent, undecided}

@@ -1,0 +1,10 @@
+pub mod Compare
+pub mod Exact
+pub mod Near
+pub mod Truncated
+pub mod Steps
+pub mod Answers
+pub mod ZeroSpread
+pub mod Spread
+pub mod Promises
+pub mod Numbers
