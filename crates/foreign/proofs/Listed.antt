@@ -13,7 +13,7 @@ use Rattle.curve.specs.declared.Rect.{Rect}
 use Rattle.curve.specs.declared.Curve.{Curve}
 use Rattle.curve.specs.declared.Refusal.{Refusal}
 use Rattle.curve.specs.Limits.{maxDegree, maxDen}
-use Rattle.curve.specs.Rect.{sidesInRange, sidesOrdered}
+use Rattle.curve.specs.Rect.{endsInRange, sidesInRange, sidesOrdered}
 use Rattle.curve.specs.Curve.{point}
 use Rattle.curve.specs.Refusals.{refusal, none, _orElse_, unlessAt, firstFailing, rangeRefusal, orderRefusal, curveRefusal, parameterRefusal, highestRefusal}
 use Rattle.curve.specs.Calls.{callRefusal, elevationRefusal}
@@ -29,6 +29,11 @@ use Rattle.search.specs.Box.{isBox}
 use Rattle.search.specs.Walk.{walked}
 use Rattle.search.specs.Search.{boxRefusal, searchRefusal, searched}
 use Rattle.search.proofs.Accepted.{answer}
+use Rattle.bridge.specs.declared.Measurement.{Measurement}
+use Rattle.bridge.specs.declared.Measurement.the-variants.{NoCarrier, Load, LoadWithSpread}
+use Rattle.bridge.specs.Value.{isLoad, isSpread}
+use Rattle.bridge.specs.Bridge.{loadRect, spreadRect, loadRefusal, numberRefusal, sideRefusal, spreadRefusal, enclosed}
+use Rattle.bridge.proofs.Answers.{answered-refusal}
 use Rattle.foreign.specs.Answer.{shorter}
 use Rattle.foreign.specs.Promises.{Listed, ListedAnswers}
 
@@ -37,10 +42,10 @@ use Rattle.foreign.specs.Promises.{Listed, ListedAnswers}
 listed-none : Listed none
 listed-none = record { known = omega arith; zero = λ e. refl }
 
-listed-some : (number place : ℕ) → number < 12 → Listed (refusal (suc number) place)
+listed-some : (number place : ℕ) → number < 14 → Listed (refusal (suc number) place)
 listed-some number place few = record { known = few; zero = λ e. absurd (omega arith) }
 
-unless : (ok : Bool) (number place : ℕ) → number < 12 → Listed (unlessAt ok (suc number) place)
+unless : (ok : Bool) (number place : ℕ) → number < 14 → Listed (unlessAt ok (suc number) place)
 unless true number place few = listed-none
 unless false number place few = listed-some number place few
 
@@ -52,7 +57,7 @@ infixr 4 _or_
 _or_ : {a b : Refusal} → Listed a → Listed b → Listed (a orElse b)
 _or_ {a} first second = either (eqb (a .number) 0) second first
 
-failing : (ok : ℕ → Bool) (number m from : ℕ) → number < 12 → Listed (firstFailing ok (suc number) m from)
+failing : (ok : ℕ → Bool) (number m from : ℕ) → number < 14 → Listed (firstFailing ok (suc number) m from)
 unfolding firstFailing
 failing ok number zero from few = listed-none
 failing ok number (suc m) from few = either (ok from) (failing ok number m (suc from) few) (listed-some number from few)
@@ -82,6 +87,17 @@ search-listed c box depth budget =
     or unless (isBox box) 6 0 (omega arith)
     or unless (leb depth maxDepth) 7 0 (omega arith)
     or unless (leb 1 budget && leb budget maxBudget) 8 0 (omega arith)
+
+bridge-listed : (m : Measurement) → Listed (enclosed m .refusal)
+unfolding enclosed loadRefusal spreadRefusal numberRefusal sideRefusal
+bridge-listed NoCarrier = listed-none
+bridge-listed (Load r x) = rw (answered-refusal (loadRefusal r x) (loadRect r x)) (unless (isLoad r) 12 0 (omega arith) or unless (isLoad x) 12 1 (omega arith))
+bridge-listed (LoadWithSpread r x spread) =
+    let p = spreadRect r x spread in
+    rw (answered-refusal (spreadRefusal r x spread) p)
+    (((unless (isLoad r) 12 0 (omega arith) or unless (isLoad x) 12 1 (omega arith)) or unless (isSpread spread) 12 2 (omega arith))
+    or unless (endsInRange (p .resistance)) 13 0 (omega arith)
+    or unless (endsInRange (p .reactance)) 13 1 (omega arith))
 
 module _ (bytes : List ℕ) where
   column-listed : (at : ℕ) → Listed (columnRefusal bytes at)
@@ -144,6 +160,7 @@ listed-answers =
       elevating = λ c. rw (elevated-refusal c) (elevation-listed c);
       bounding = λ c. rw (bounded-refusal c) (curve-listed c);
       searching = λ c box depth budget. rw (searched-refusal c box depth budget) (search-listed c box depth budget);
+      enclosing = bridge-listed;
       reading = λ card. rw (read-refusal card) (card-listed card);
       writing = λ c out. rw (written-refusal c out) (writing-listed c (length out));
       short = λ r needed size listed. listed or short-listed needed size;

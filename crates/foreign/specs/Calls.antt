@@ -11,7 +11,9 @@ use Rattle.curve.specs.declared.Enclosure.{Enclosure}
 use Rattle.card_text.specs.declared.CardRead.{CardRead}
 use Rattle.card_text.specs.Card.{sides}
 use Rattle.search.specs.declared.SearchAnswer.{SearchAnswer}
-use Rattle.foreign.specs.Numbers.{curveNumbers, ohmNumbers, flagNumber, verdictNumbers}
+use Rattle.bridge.specs.declared.BridgeAnswer.{BridgeAnswer}
+use Rattle.bridge.specs.Bridge.{reported}
+use Rattle.foreign.specs.Numbers.{curveNumbers, ohmNumbers, flagNumber, verdictNumbers, foundNumbers}
 use Rattle.foreign.specs.Answer.{Gives, GivesNumber, GivesBothNumber}
 
 -- the load, its ohms, and the exact flag
@@ -34,3 +36,7 @@ GivesSearch a = Gives (a .refusal) (verdictNumbers (a .verdict))
 
 abbrev pub GivesCard : CardRead → List ℤ → ℕ → List ℤ → Type 0
 GivesCard r = Gives (r .refusal) (curveNumbers (r .curve))
+
+-- the rectangle, and the number of what was found
+abbrev pub GivesFound : BridgeAnswer → List ℤ → ℕ → ℕ → List ℤ → ℕ → Type 0
+GivesFound a rect = GivesNumber (a .refusal) (foundNumbers (a .found)) rect (reported (a .found) .number)

@@ -4,8 +4,9 @@ use mathlib.Core.Bool.{Bool, cond}
 use mathlib.Core.List.{List, [], _∷_, _++_}
 use Prim.Native.Nat.{ℕ, zero, suc, _+_, _*_}
 use lib.IntN.{ℤ, pos}
-use lib.Ieee.{Float}
-use lib.ListN.{getD}
+use lib.Dec.{leb, eqb}
+use lib.Ieee.{Float, nan}
+use lib.ListN.{length, getD}
 use Rattle.curve.specs.declared.Rect.{Rect}
 use Rattle.curve.specs.declared.Curve.{Curve}
 use Rattle.curve.specs.declared.Ohms.{Ohms}
@@ -13,6 +14,10 @@ use Rattle.curve.specs.Curve.{curveOf, point}
 use Rattle.card_text.specs.Card.{sides}
 use Rattle.search.specs.declared.Verdict.{Verdict}
 use Rattle.search.specs.Verdict.{Report, reported}
+use Rattle.bridge.specs.declared.Measurement.{Measurement}
+use Rattle.bridge.specs.declared.Measurement.the-variants.{NoCarrier, Load, LoadWithSpread}
+use Rattle.bridge.specs.declared.Found.{Found}
+use Rattle.bridge.specs.declared.Found.the-variants.{Refused, Nothing, Rectangle}
 
 -- ---- what a call is given
 
@@ -31,6 +36,16 @@ rectAt zs at =
 -- the curve of a degree with these sides, four a rectangle
 unfoldable pub curveFrom : ℕ → List ℤ → Curve
 curveFrom degree zs = curveOf degree (λ k. rectAt zs (4 * k))
+
+-- the bridge's ohms: none are no carrier, up to two a load, more a load with a spread, of which three are read
+-- a number that the list does not have is not a number, which is refused
+abbrev pub ohmsAt : List Float → ℕ → Float
+ohmsAt xs k = getD xs k nan
+
+unfoldable pub measurementFrom : List Float → Measurement
+measurementFrom xs =
+    cond (eqb (length xs) 0) NoCarrier
+    (cond (leb (length xs) 2) (Load (ohmsAt xs 0) (ohmsAt xs 1)) (LoadWithSpread (ohmsAt xs 0) (ohmsAt xs 1) (ohmsAt xs 2)))
 
 -- ---- what a call gives; a rectangle is its four sides, as on a card
 
@@ -57,3 +72,9 @@ reportNumbers r = r .number ∷ r .depth ∷ r .index ∷ r .count ∷ []
 
 abbrev pub verdictNumbers : Verdict → List ℕ
 verdictNumbers v = reportNumbers (reported v)
+
+-- what a measurement encloses: a rectangle's sides, or nothing
+abbrev pub foundNumbers : Found → List ℤ
+foundNumbers Refused = []
+foundNumbers Nothing = []
+foundNumbers (Rectangle p) = sides p

@@ -1,10 +1,11 @@
-// Rectangles and curves from the sides that a caller lends. Sides that a slice does not have count as zero.
+// Rectangles, curves and measurements from the numbers that a caller lends. Sides that a slice does not have count as zero.
 ghost use mathlib.Core.Path.{_≡_};
 ghost use Prim.Native.Nat.{_*_, _≤_};
 ghost use Rattle.curve.specs.Limits.{maxDegree};
-ghost use Rattle.foreign.specs.Numbers.{sideAt, rectAt, curveFrom};
+ghost use Rattle.foreign.specs.Numbers.{sideAt, rectAt, curveFrom, ohmsAt, measurementFrom};
 ghost use Rattle.foreign.specs.Inner.{lastPlace};
 use crate::results::RECT_LENGTH;
+use bridge::Measurement;
 use curve::Curve;
 use curve::Interval;
 use curve::MAX_DEGREE;
@@ -60,4 +61,33 @@ pub fn curve_from(degree: u32, sides: &[i32]) -> Curve
         points[k] = rect_at(sides, RECT_LENGTH * k);
     }
     Curve { degree, points }
+}
+
+// The bridge's number at an index, or not a number where the slice does not have it.
+fn ohms_at(ohms: &[f32], k: usize) -> f32
+    ensures { λ r. ⌜ r ≡ ohmsAt (now (ohms .entry)) k ⌝ }
+{
+    if k < ohms.len() { ohms[k] } else { 0.0 / 0.0 }
+}
+
+// The measurement with these numbers: no carrier, a load, or a load with a spread.
+pub fn measurement_from(ohms: &[f32]) -> Measurement
+    ensures { λ r. ⌜ r ≡ measurementFrom (now (ohms .entry)) ⌝ }
+{
+    if ohms.len() == 0 {
+        return Measurement::NoCarrier;
+    }
+    let resistance = ohms_at(ohms, 0);
+    let reactance = ohms_at(ohms, 1);
+    if ohms.len() <= 2 {
+        return Measurement::Load {
+            resistance,
+            reactance,
+        };
+    }
+    Measurement::LoadWithSpread {
+        resistance,
+        reactance,
+        spread: ohms_at(ohms, 2),
+    }
 }

@@ -5,7 +5,8 @@ ghost use Rattle.curve.specs.Calls.{evaluated, subdivided, elevated, bounded};
 ghost use Rattle.card_text.specs.Reading.{readCard};
 ghost use Rattle.card_text.specs.Writing.{writeCard, bytesAfter};
 ghost use Rattle.search.specs.Search.{searched};
-ghost use Rattle.foreign.specs.Numbers.{rectAt, curveFrom};
+ghost use Rattle.bridge.specs.Bridge.{enclosed};
+ghost use Rattle.foreign.specs.Numbers.{rectAt, curveFrom, measurementFrom};
 ghost use Rattle.foreign.specs.Answer.{answerOf};
 ghost use Rattle.foreign.specs.Calls.{
   GivesEvaluation,
@@ -13,6 +14,7 @@ ghost use Rattle.foreign.specs.Calls.{
   GivesElevation,
   GivesEnclosure,
   GivesSearch,
+  GivesFound,
   GivesCard,
 };
 
@@ -23,12 +25,17 @@ mod results;
 use answers::answer_of;
 use answers::with_room;
 use given::curve_from;
+use given::measurement_from;
 use given::rect_at;
 use results::RECT_LENGTH;
 use results::VERDICT_LENGTH;
 use results::curve_length;
+use results::found_length;
+use results::found_number;
 use results::put_curve;
 use results::put_exact;
+use results::put_found;
+use results::put_number;
 use results::put_ohms;
 use results::put_rect;
 use results::put_verdict;
@@ -124,6 +131,19 @@ pub extern "C" fn jusqani_search(
     let refusal = with_room(answer.refusal, VERDICT_LENGTH, verdict.len());
     let found = answer.verdict;
     put_verdict(verdict, refusal, found);
+    answer_of(refusal)
+}
+
+// The rectangle of whole steps that encloses what the bridge measured, and which of its forms was found; refusals 13, 14 and 12.
+#[no_mangle]
+pub extern "C" fn jusqani_enclose(ohms: &[f32], rect: &mut [i32], found: &mut u32) -> u64
+    ensures { λ r. ⌜ GivesFound (enclosed (measurementFrom (now (ohms .entry)))) (now (rect .entry)) (now (found .entry)) r (now (rect .exit)) (now (found .exit)) ⌝ }
+{
+    let answer = bridge::enclose(measurement_from(ohms));
+    let enclosed = answer.found;
+    let refusal = with_room(answer.refusal, found_length(enclosed), rect.len());
+    put_found(rect, refusal, enclosed);
+    put_number(found, refusal, found_number(enclosed));
     answer_of(refusal)
 }
 

@@ -6,9 +6,11 @@ ghost use lib.ListN.{length, drop};
 ghost use lib.Seq.{sets};
 ghost use Rattle.curve.specs.Limits.{maxDegree};
 ghost use Rattle.card_text.specs.Card.{sides};
-ghost use Rattle.foreign.specs.Numbers.{curveNumbers, ohmNumbers, flagNumber, verdictNumbers};
+ghost use Rattle.bridge.specs.Bridge.{reported};
+ghost use Rattle.foreign.specs.Numbers.{curveNumbers, ohmNumbers, flagNumber, verdictNumbers, foundNumbers};
 ghost use Rattle.foreign.specs.Answer.{unlessRefused, after};
 ghost use Rattle.foreign.specs.Inner.{Room};
+use bridge::Found;
 use curve::Curve;
 use curve::Ohms;
 use curve::Rect;
@@ -97,14 +99,21 @@ pub fn put_ohms(out: &mut [f32], refusal: Refusal, o: Ohms)
     out[3] = o.xhigh;
 }
 
-// Gives a flag as a number, 1 or 0, unless the call is refused.
-pub fn put_exact(out: &mut u32, refusal: Refusal, exact: bool)
-    ensures { λ _. ⌜ now (out .exit) ≡ unlessRefused refusal (flagNumber exact) (now (out .entry)) ⌝ }
+// Gives a number, unless the call is refused.
+pub fn put_number(out: &mut u32, refusal: Refusal, value: u32)
+    ensures { λ _. ⌜ now (out .exit) ≡ unlessRefused refusal value (now (out .entry)) ⌝ }
 {
     if refusal.number != 0 {
         return;
     }
-    *out = exact as u32;
+    *out = value;
+}
+
+// Gives a flag as a number, 1 or 0, unless the call is refused.
+pub fn put_exact(out: &mut u32, refusal: Refusal, exact: bool)
+    ensures { λ _. ⌜ now (out .exit) ≡ unlessRefused refusal (flagNumber exact) (now (out .entry)) ⌝ }
+{
+    put_number(out, refusal, exact as u32);
 }
 
 // A verdict's number, depth, index and count.
@@ -141,4 +150,38 @@ pub fn put_verdict(out: &mut [u32], refusal: Refusal, v: Verdict)
     out[1] = numbers[1];
     out[2] = numbers[2];
     out[3] = numbers[3];
+}
+
+// The numbers that what was found needs.
+pub fn found_length(found: Found) -> usize
+    ensures { λ r. ⌜ r ≡ length (foundNumbers found) ⌝ }
+{
+    match found {
+        Found::Refused => 0,
+        Found::Nothing => 0,
+        Found::Rectangle(_) => RECT_LENGTH,
+    }
+}
+
+// Which it is: 1 no carrier, 2 a rectangle.
+pub fn found_number(found: Found) -> u32
+    ensures { λ r. ⌜ r ≡ reported found .number ⌝ }
+{
+    match found {
+        Found::Refused => 0,
+        Found::Nothing => 1,
+        Found::Rectangle(_) => 2,
+    }
+}
+
+// Gives the rectangle that was found, if there is one, unless the call is refused.
+pub fn put_found(out: &mut [i32], refusal: Refusal, found: Found)
+    requires { ⌜ Room refusal (length (foundNumbers found)) (now out) ⌝ }
+    ensures { λ _. ⌜ now (out .exit) ≡ after refusal (foundNumbers found) (now (out .entry)) ⌝ }
+{
+    match found {
+        Found::Refused => {}
+        Found::Nothing => {}
+        Found::Rectangle(rect) => put_rect(out, refusal, rect),
+    }
 }
