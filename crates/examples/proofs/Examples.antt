@@ -17,8 +17,12 @@ use Rattle.curve.specs.Curve.{tabulate, pointsOf, loadOf, leftOf, rightOf, tabl
 use Rattle.curve.specs.Refusals.{firstFailing, rangeRefusal, orderRefusal, curveRefusal, parameterRefusal, highestRefusal}
 use Rattle.curve.specs.Calls.{callRefusal, elevationRefusal, evaluated, subdivided, elevated, bounded}
 use Rattle.examples.specs.Shown.{resistancesFrom, resistancesShown}
+use lib.Ieee.{ofBits}
+use Rattle.bridge.specs.Value as bridge
+use Rattle.bridge.specs.Value.{finite, ohms, steps, stepsAbout, isFrom}
+use Rattle.bridge.specs.Bridge.{loadRect, spreadRect, loadRefusal, numberRefusal, sideRefusal, spreadRefusal, enclosed}
 use Rattle.examples.specs.Examples.{cardCurve, exactLoad, exactResistance, examples, Agree}
 
 pub agree : Agree
-unfolding floor ceiling quotient divisible affineExact allBelow everyMap exactInterval exactRect tableExact elevatedExact elevationExact exactResistance _+ᶠ_ _*ᶠ_ _^ᶠ_ whole complement choose sumTo term bernstein parameter exactLoad digitsBefore digits text column valueAfter hasMinus signed decode sameBytes readBytes readAt degreeOf intervalAt rectAt decoded columnRefusal lineEndRefusal endsRefusal rowRefusal rowsRefusal shortRefusal lengthRefusal headerRefusal cardRefusal readCard affine table value left right inRange endsInRange sidesInRange endsOrdered sidesOrdered affineInterval affineRect tabulate pointsOf loadOf leftOf rightOf elevatedPoint elevatedOf firstFailing rangeRefusal orderRefusal curveRefusal parameterRefusal highestRefusal callRefusal elevationRefusal evaluated subdivided elevated bounded resistancesFrom resistancesShown cardCurve examples least greatest hullInterval hull hullTo boundsOf within disjoint inBox apartFrom isBox stepAt walked boxRefusal searchRefusal searched
+unfolding floor ceiling quotient divisible affineExact allBelow everyMap exactInterval exactRect tableExact elevatedExact elevationExact exactResistance _+ᶠ_ _*ᶠ_ _^ᶠ_ whole complement choose sumTo term bernstein parameter exactLoad digitsBefore digits text column valueAfter hasMinus signed decode sameBytes readBytes readAt degreeOf intervalAt rectAt decoded columnRefusal lineEndRefusal endsRefusal rowRefusal rowsRefusal shortRefusal lengthRefusal headerRefusal cardRefusal readCard affine table value left right inRange endsInRange sidesInRange endsOrdered sidesOrdered affineInterval affineRect tabulate pointsOf loadOf leftOf rightOf elevatedPoint elevatedOf firstFailing rangeRefusal orderRefusal curveRefusal parameterRefusal highestRefusal callRefusal elevationRefusal evaluated subdivided elevated bounded resistancesFrom resistancesShown cardCurve examples least greatest hullInterval hull hullTo boundsOf within disjoint inBox apartFrom isBox stepAt walked boxRefusal searchRefusal searched ofBits finite ohms steps bridge.stepAt stepsAbout isFrom loadRect spreadRect loadRefusal numberRefusal sideRefusal spreadRefusal enclosed
 agree = refl

@@ -4,6 +4,7 @@ use mathlib.Core.Path.{_≡_}
 use mathlib.Core.List.{List, [], _∷_, map}
 use Prim.Native.Nat.{ℕ}
 use lib.IntN.{ℤ, pos, negsuc}
+use lib.Ieee.{Float, nan, binary32, ofBits}
 use Rattle.rational.specs.Rounding.{down}
 use Rattle.rational.specs.Fraction.{Frac}
 use Rattle.curve.specs.declared.Curve.{Curve}
@@ -16,7 +17,9 @@ use Rattle.ledger.specs.Ordinary.{exactSide}
 use Rattle.ledger.specs.Ledger.{parameter}
 use Rattle.search.specs.Verdict.{outside, spent, undecided}
 use Rattle.search.specs.Search.{searched}
-use Rattle.examples.specs.Shown.{values, line, ends, refusalShown, flagShown, evaluationShown, resistancesShown, verdictShown, upperOf, timesLower, spaces}
+use Rattle.bridge.specs.declared.Measurement.the-variants.{NoCarrier, Load, LoadWithSpread}
+use Rattle.bridge.specs.Bridge.{noCarrier, rectangle, enclosed}
+use Rattle.examples.specs.Shown.{values, line, ends, refusalShown, flagShown, evaluationShown, resistancesShown, verdictShown, foundShown, upperOf, timesLower, spaces}
 
 -- an example: the numbers that a definition answers, and those that a document gives
 pub record Example : Type 0 where
@@ -55,6 +58,43 @@ exactResistance = exactSide coordinatesApart resistance down (parameter 1 2)
 -- the walk's box: resistance 0 to 2, reactance 0 to 0
 abbrev pub smallBox : Rect
 smallBox = record { resistance = record { low = pos 0; high = pos 2 }; reactance = record { low = pos 0; high = pos 0 } }
+
+-- single-precision ohms by their bits
+abbrev pub single : ℕ → Float
+single bits = ofBits binary32 bits
+
+-- 0, −0, 50 and −0.0009765625, which is −1/1,024
+abbrev pub zero : Float
+zero = single 0
+
+abbrev pub minusZero : Float
+minusZero = single 0x80000000
+
+abbrev pub fifty : Float
+fifty = single 0x42480000
+
+abbrev pub stepBelowZero : Float
+stepBelowZero = single 0xba800000
+
+-- 1/1,024, and the float nearest to 0.0001
+abbrev pub oneStep : Float
+oneStep = single 0x3a800000
+
+abbrev pub tenThousandth : Float
+tenThousandth = single 0x38d1b717
+
+-- 16,384 and −16,384, and the next floats beyond
+abbrev pub largest : Float
+largest = single 0x46800000
+
+abbrev pub least : Float
+least = single 0xc6800000
+
+abbrev pub beyondLargest : Float
+beyondLargest = single 0x46800001
+
+abbrev pub beyondLeast : Float
+beyondLeast = single 0xc6800001
 
 unfoldable pub examples : List Example
 examples =
@@ -107,6 +147,22 @@ examples =
     ∷ (flagShown (evaluated coordinatesApart 1 2 .exact) gives pos 0 ∷ [])
     ∷ (evaluationShown (evaluated coordinatesApart 1 2) gives pos 0 ∷ pos 0 ∷ pos 2 ∷ pos 2 ∷ pos 0 ∷ pos 1 ∷ [])
     ∷ (upperOf exactResistance gives timesLower (pos 2) exactResistance)
+    -- the bridge: 50 ohms; −0.0009765625 ohm, one step below zero; 0.0001 ohm, between two steps; minus zero
+    ∷ (foundShown (enclosed (Load fifty zero)) gives pos 0 ∷ pos 0 ∷ pos rectangle ∷ pos 51200 ∷ pos 51200 ∷ pos 0 ∷ pos 0 ∷ [])
+    ∷ (foundShown (enclosed (Load stepBelowZero zero)) gives pos 0 ∷ pos 0 ∷ pos rectangle ∷ negsuc 0 ∷ negsuc 0 ∷ pos 0 ∷ pos 0 ∷ [])
+    ∷ (foundShown (enclosed (Load tenThousandth zero)) gives pos 0 ∷ pos 0 ∷ pos rectangle ∷ pos 0 ∷ pos 1 ∷ pos 0 ∷ pos 0 ∷ [])
+    ∷ (foundShown (enclosed (Load minusZero zero)) gives pos 0 ∷ pos 0 ∷ pos rectangle ∷ pos 0 ∷ pos 0 ∷ pos 0 ∷ pos 0 ∷ [])
+    -- 16,384 ohms either way are accepted, and the next floats beyond are a 13
+    ∷ (foundShown (enclosed (Load largest least)) gives pos 0 ∷ pos 0 ∷ pos rectangle ∷ pos 16777216 ∷ pos 16777216 ∷ negsuc 16777215 ∷ negsuc 16777215 ∷ [])
+    ∷ (foundShown (enclosed (Load beyondLargest zero)) gives pos 13 ∷ pos 0 ∷ pos 0 ∷ pos 0 ∷ pos 0 ∷ pos 0 ∷ pos 0 ∷ [])
+    ∷ (foundShown (enclosed (Load zero beyondLeast)) gives pos 13 ∷ pos 1 ∷ pos 0 ∷ pos 0 ∷ pos 0 ∷ pos 0 ∷ pos 0 ∷ [])
+    -- 16,384 ohms with a spread of one step: 14, place 0; with one that is no number it is a 13 at place 2 first
+    ∷ (foundShown (enclosed (LoadWithSpread largest zero oneStep)) gives pos 14 ∷ pos 0 ∷ pos 0 ∷ pos 0 ∷ pos 0 ∷ pos 0 ∷ pos 0 ∷ [])
+    ∷ (foundShown (enclosed (LoadWithSpread largest zero nan)) gives pos 13 ∷ pos 2 ∷ pos 0 ∷ pos 0 ∷ pos 0 ∷ pos 0 ∷ pos 0 ∷ [])
+    -- a spread between two steps counts as the larger: 50 ohms within 0.0001 ohm
+    ∷ (foundShown (enclosed (LoadWithSpread fifty zero tenThousandth)) gives pos 0 ∷ pos 0 ∷ pos rectangle ∷ pos 51199 ∷ pos 51201 ∷ negsuc 0 ∷ pos 1 ∷ [])
+    -- no carrier: nothing is refused, and there is no rectangle
+    ∷ (foundShown (enclosed NoCarrier) gives pos 0 ∷ pos 0 ∷ pos noCarrier ∷ pos 0 ∷ pos 0 ∷ pos 0 ∷ pos 0 ∷ [])
     ∷ []
 
 -- every example of the list is answered as the documents say

@@ -14,7 +14,9 @@ use Rattle.curve.specs.declared.Refusal.{Refusal}
 use Rattle.curve.specs.declared.Evaluation.{Evaluation}
 use Rattle.curve.specs.Rect.{zeroInterval}
 use Rattle.search.specs.declared.Verdict.{Verdict}
-use Rattle.search.specs.Verdict.{reported}
+use Rattle.search.specs.Verdict as verdict
+use Rattle.bridge.specs.declared.BridgeAnswer.{BridgeAnswer}
+use Rattle.bridge.specs.Bridge.{reported}
 use Rattle.curve.specs.Curve.{point, curveOf}
 
 -- "values": one coordinate with low equal to high, the other zero
@@ -61,7 +63,11 @@ resistancesShown c = pos (c .degree) ∷ resistancesFrom c (c .degree + 1) 0
 -- the number of a walk's answer, the depth and the index of the piece that it names, and the count
 abbrev pub verdictShown : Verdict → List ℤ
 verdictShown v =
-    pos (reported v .number) ∷ pos (reported v .depth) ∷ pos (reported v .index) ∷ pos (reported v .count) ∷ []
+    let r = verdict.reported v in pos (r .number) ∷ pos (r .depth) ∷ pos (r .index) ∷ pos (r .count) ∷ []
+
+-- what the bridge measured: the refusal, the number of what was found, and its rectangle's sides
+abbrev pub foundShown : BridgeAnswer → List ℤ
+foundShown a = refusalShown (a .refusal) ++ (pos (reported (a .found) .number) ∷ sidesShown (reported (a .found) .rect))
 
 -- a fraction by multiplying out: its upper number, and the whole number that it is compared with times its lower one
 abbrev pub upperOf : Frac → List ℤ
