@@ -1,20 +1,17 @@
 -- The answers of `enclose` by what is refused: its numbers, its sides, or nothing.
 -- Assumes nothing.
-use mathlib.Core.Path.{_≡_, refl, sym, ap, ap₂, _∙_}
-use mathlib.Core.Bool.{Bool, true, false, cond}
-use Prim.Native.Nat.{ℕ, suc}
-use native.Mathlib.Omega.{arith}
+use mathlib.Core.Path.{_≡_, refl, sym, ap, _∙_}
 use borrow.Author.Tests.{eq-eqb, ne-eqb}
-use lib.Dec.{T, eqb}
+use lib.Dec.{T}
 use lib.Ieee.{Float}
 use Rattle.curve.specs.declared.Rect.{Rect}
 use Rattle.curve.specs.declared.Refusal.{Refusal}
 use Rattle.curve.specs.Rect.{endsInRange}
 use Rattle.curve.specs.Refusals.{unlessAt}
-use Rattle.curve.proofs.Tests.{or-split}
+use Rattle.curve.proofs.Tests.{or-split, unless-holds}
 use Rattle.curve.proofs.Refused.{or-first, or-second}
 use Rattle.curve.proofs.Answers.{in-both}
-use Rattle.bridge.specs.declared.Measurement.the-variants.{Load, LoadWithSpread}
+use Rattle.bridge.specs.declared.Measurement.the-variants.{LoadWithSpread}
 use Rattle.bridge.specs.declared.Found.the-variants.{Refused, Rectangle}
 use Rattle.bridge.specs.declared.BridgeAnswer.{BridgeAnswer}
 use Rattle.bridge.specs.Value.{isLoad, isSpread}
@@ -61,24 +58,20 @@ module _ (r x spread : Float) where
 
 -- ---- what number 0 says
 
-holds : (ok : Bool) (number place : ℕ) → unlessAt ok (suc number) place .number ≡ 0 → T ok
-holds true number place h = tt
-holds false number place h = let z : suc number ≡ 0 = h in absurd (omega arith)
-
 pub loads-passed : (r x : Float) → loadRefusal r x .number ≡ 0 → T (isLoad r) × T (isLoad x)
 unfolding loadRefusal
 loads-passed r x h =
     let (first, second) = or-split (unlessAt (isLoad r) 13 0) (unlessAt (isLoad x) 13 1) h in
-    (holds (isLoad r) 12 0 first, holds (isLoad x) 12 1 second)
+    (unless-holds (isLoad r) 12 0 first, unless-holds (isLoad x) 12 1 second)
 
 pub numbers-passed : (r x spread : Float) → numberRefusal r x spread .number ≡ 0 → (loadRefusal r x .number ≡ 0) × T (isSpread spread)
 unfolding numberRefusal
 numbers-passed r x spread h =
     let (load, last) = or-split (loadRefusal r x) (unlessAt (isSpread spread) 13 2) h in
-    (load, holds (isSpread spread) 12 2 last)
+    (load, unless-holds (isSpread spread) 12 2 last)
 
 pub sides-passed : (p : Rect) → sideRefusal p .number ≡ 0 → T (endsInRange (p .resistance)) × T (endsInRange (p .reactance))
 unfolding sideRefusal
 sides-passed p h =
     let (first, second) = or-split (unlessAt (endsInRange (p .resistance)) 14 0) (unlessAt (endsInRange (p .reactance)) 14 1) h in
-    (holds (endsInRange (p .resistance)) 13 0 first, holds (endsInRange (p .reactance)) 13 1 second)
+    (unless-holds (endsInRange (p .resistance)) 13 0 first, unless-holds (endsInRange (p .reactance)) 13 1 second)

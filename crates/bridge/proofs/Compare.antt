@@ -2,15 +2,14 @@
 -- Assumes nothing.
 use mathlib.Core.Path.{_≡_, refl, sym, ap, ap₂, _∙_}
 use mathlib.Core.Bool.{Bool, true, false, _&&_, _||_, true≢false}
-use Prim.Native.Nat.{ℕ, zero, suc, _+_, _*_, _^_, _≤_, _<_}
+use Prim.Native.Nat.{ℕ, zero, suc, _+_, _*_, _^_, _<_}
 use native.Mathlib.Nat.{zero-add}
 use native.Mathlib.Omega.{arith}
-use lib.Dec.{T, leb, ltb, eqb, leb→le, le→leb, ltb→lt, lt→ltb, eqb→eq, eqb-refl, leb·suc-zero, leb·suc-suc, eqb·suc-zero, eqb·suc-suc, eqb·zero-suc, leb·zero}
-use lib.IntN.{ℤ, pos, negsuc, negℤ, _*ℤ_}
+use lib.Dec.{leb, ltb, eqb, lt→ltb, leb·suc-zero, leb·suc-suc, eqb·suc-zero, eqb·suc-suc, eqb·zero-suc, leb·zero}
+use lib.IntN.{ℤ, pos, _*ℤ_}
 use lib.Signed.{leZ, ltZ}
 use lib.Ieee as Ieee
-use lib.Ieee.{Float, nan, inf, fin, lt, le, eq, below, level}
-use Rattle.rational.proofs.Truth.{same-truth}
+use lib.Ieee.{Float, nan, inf, fin, lt, le, below, level}
 use Rattle.rational.proofs.Whole.{neg-mul, mul-one}
 use Rattle.curve.proofs.Tests.{true-of}
 use Rattle.bridge.specs.Value.{signed, finite, ohms, isFrom}

@@ -2,22 +2,19 @@
 -- Assumes nothing.
 use mathlib.Core.Path.{_≡_, refl, sym, ap, ap₂, _∙_, subst}
 use mathlib.Core.Bool.{Bool, true, false, _&&_}
-use mathlib.Core.Logic.{inl, inr}
 use Prim.Native.Nat.{ℕ, zero, suc, _+_, _*_, _-_, _%_, _^_, _≤_, _<_}
-use native.Mathlib.Nat.{mul-one, zero-mul, mul-assoc, mul-le-mul-right, lt-of-le-of-lt, le-of-lt, lt-irrefl, lt-of-lt-of-le, lt-trans}
+use native.Mathlib.Nat.{mul-one, zero-mul, mul-assoc, mul-le-mul-right, lt-of-le-of-lt, lt-irrefl, lt-of-lt-of-le, lt-trans}
 use native.Mathlib.Omega.{arith}
 use lib.Dec.{T, lit<, leb→le, ltb→lt, nltb→le, not-T, eqb, ltb, leb}
 use Rattle.curve.proofs.Tests.{both}
 use lib.Pow.{pow-add, pow-lt, shl-lt, pow-pos}
-use lib.IntN.{ℤ, pos, negsuc, natAbs, _*ℤ_}
+use lib.IntN.{ℤ, pos, negsuc}
 use lib.Ieee as Ieee
-use lib.Ieee.{Float, nan, inf, fin, binary32, prec, low, emax, round, mul, ofInt, fits, unlike}
-use lib.Ieee.Fits.{and-l, and-r, down-pos}
+use lib.Ieee.{Float, nan, inf, fin, binary32, prec, low, emax, round, mul, fits, unlike}
+use lib.Ieee.Fits.{down-pos}
 use lib.Ieee.Exact.{HasValue, round-exact}
-use Rattle.rational.specs.Fraction.{Frac, Equal, whole}
-use Rattle.rational.specs.Promises.{over}
-use Rattle.curve.specs.Limits.{maxSide, stepsPerOhm}
-use Rattle.bridge.specs.Value.{signed, maxOhms, finite, ohms, steps}
+use Rattle.curve.specs.Limits.{stepsPerOhm}
+use Rattle.bridge.specs.Value.{signed, maxOhms, finite, ohms}
 use Rattle.bridge.specs.Promises.{ExactValue}
 use Rattle.bridge.proofs.Compare.{signed-times}
 

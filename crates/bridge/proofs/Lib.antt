@@ -1,6 +1,5 @@
 pub mod Compare
 pub mod Exact
-pub mod Near
 pub mod Truncated
 pub mod Steps
 pub mod Answers

@@ -1,38 +1,31 @@
 -- What is promised of a measurement's rectangle, proved from the laws of rounding and of fractions.
 -- Assumes nothing.
-use mathlib.Core.Path.{_≡_, refl, sym, ap, ap₂, _∙_, subst, subst₂}
-use mathlib.Core.Bool.{Bool, true, false, _&&_, true≢false}
-use Prim.Native.Nat.{ℕ, zero, suc, _*_}
-use native.Mathlib.Nat.{zero-mul}
+use mathlib.Core.Path.{_≡_, refl, sym, ap, _∙_, subst, subst₂}
+use mathlib.Core.Bool.{Bool, true, false}
+use Prim.Native.Nat.{ℕ, _*_}
 use native.Mathlib.Omega.{arith}
 use borrow.Author.Tests.{eqb-true}
-use lib.Dec.{T, eqb}
-use lib.IntN.{ℤ, pos, negℤ, _+ℤ_, _-ℤ_, _*ℤ_, +ℤ-comm, +ℤ-idr, -ℤ-+ℤ-cancel}
-use lib.Signed.{leZ, _≤ℤ_}
+use lib.Dec.{eqb}
+use lib.IntN.{ℤ, pos, _+ℤ_, _-ℤ_, _*ℤ_, +ℤ-idr, -ℤ-+ℤ-cancel}
+use lib.Signed.{_≤ℤ_}
 use lib.Ieee as Ieee
-use lib.Ieee.{Float, nan, inf, fin}
-use lib.Ieee.Fits.{down-pos}
-use Rattle.rational.specs.Rounding.{Rounding, down, up, quotient}
-use Rattle.rational.specs.Fraction.{Frac, whole, _≤ᶠ_, _+ᶠ_, _*ᶠ_}
+use lib.Ieee.{Float, fin}
+use Rattle.rational.specs.Rounding.{Rounding, down, up}
+use Rattle.rational.specs.Fraction.{Frac, whole}
 use Rattle.rational.proofs.Whole.{mul-one}
 use Rattle.rational.proofs.Truth.{both-and}
 use Rattle.rational.proofs.Order.{≤ℤ-trans, ≤ℤ-reflexive, ≤ℤ-certificate}
 use Rattle.rational.proofs.Quotient.{rounds-down, rounds-up, down-up}
-use Rattle.curve.specs.declared.Interval.{Interval}
 use Rattle.curve.specs.declared.Rect.{Rect}
 use Rattle.curve.specs.declared.Refusal.{Refusal}
-use Rattle.curve.specs.Limits.{stepsPerOhm}
-use Rattle.curve.specs.Refusals.{_orElse_, unlessAt}
 use Rattle.curve.specs.Rect.{Coordinate, resistance, reactance, side, Outward, Bounded, Inside, endsInRange, sidesInRange, sidesOrdered}
 use Rattle.curve.proofs.Tests.{or-split, true-of}
 use Rattle.curve.proofs.Accepted.{sides-order}
-use Rattle.bridge.specs.declared.Measurement.{Measurement}
 use Rattle.bridge.specs.declared.Measurement.the-variants.{NoCarrier, Load, LoadWithSpread}
-use Rattle.bridge.specs.declared.Found.{Found}
-use Rattle.bridge.specs.declared.Found.the-variants.{Refused, Nothing, Rectangle}
-use Rattle.bridge.specs.Value.{finite, ohms, steps, stepAt, stepsAbout, isFrom, isLoad}
+use Rattle.bridge.specs.declared.Found.the-variants.{Refused, Rectangle}
+use Rattle.bridge.specs.Value.{steps, stepAt, stepsAbout}
 use Rattle.bridge.specs.Bridge.{moved, loadRect, spreadRect, loadRefusal, numberRefusal, sideRefusal, spreadRefusal, answered, enclosed}
-use Rattle.bridge.specs.Promises.{Encloses, of, Holds, Smallest, SpreadHolds, SpreadMoves, GoodRect, plusZero, MinusZero, NotFinite}
+use Rattle.bridge.specs.Promises.{Encloses, of, Holds, Smallest, SpreadHolds, SpreadMoves, GoodRect}
 use Rattle.bridge.proofs.Steps.{spread-steps}
 use Rattle.bridge.proofs.Answers.{answered-gives, numbers-passed, sides-passed}
 use Rattle.bridge.proofs.ZeroSpread.{zero-spread}

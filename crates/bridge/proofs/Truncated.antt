@@ -1,14 +1,13 @@
 -- A float cut to a whole number, by its value: which number that is, how near it lies, and how the two compare as floats.
 -- Assumes nothing.
-use mathlib.Core.Path.{_≡_, refl, sym, ap, ap₂, _∙_, subst, subst₂}
+use mathlib.Core.Path.{_≡_, refl, sym, ap, ap₂, _∙_, subst}
 use mathlib.Core.Bool.{Bool, true, false, not, cond}
-use mathlib.Core.Logic.{inl, inr}
-use Prim.Native.Nat.{ℕ, zero, suc, _+_, _*_, _-_, _/_, _^_, _≤_, _<_, min, zero-le}
+use Prim.Native.Nat.{ℕ, suc, _+_, _*_, _-_, _/_, _^_, _≤_, _<_, min, zero-le}
 use native.Mathlib.Nat.{mul-comm, div-mul-le-self, lt-div-mul-add, div-le-of-le-mul, mul-lt-mul-of-pos-right}
 use native.Mathlib.Omega.{arith}
 use lib.Dec.{T, lit<, lt→ltb}
-use lib.IntN.{ℤ, pos, negsuc, negℤ, natAbs, _+ℤ_, _-ℤ_, _*ℤ_, +ℤ-assoc, +ℤ-comm, +ℤ-idl, +ℤ-invl}
-use lib.Signed.{leZ, ltZ, _≤ℤ_, _<ℤ_, ltZ-yes, ltZ-no, leZ-yes, clashℤ}
+use lib.IntN.{ℤ, pos, negsuc, negℤ, natAbs, _+ℤ_, _-ℤ_, _*ℤ_, +ℤ-assoc, +ℤ-comm, +ℤ-idl, +ℤ-idr, +ℤ-invl}
+use lib.Signed.{leZ, ltZ, _≤ℤ_, _<ℤ_}
 use lib.Ieee as Ieee
 use lib.Ieee.{Float, nan, inf, fin, binary32, lt, le, ofInt, toSigned}
 use lib.Ieee.Fits.{down-pos}
@@ -16,52 +15,27 @@ use lib.Ieee.Exact.{HasValue}
 use lib.Ieee.Back.{round-whole}
 use lib.Ieee.Nearest.{div-same}
 use mir.Val.{boolByte}
-use Rattle.rational.proofs.Truth.{same-truth}
 use Rattle.rational.proofs.Whole.{add-left-comm, mul-one}
 use Rattle.rational.specs.Rounding.{down, up, quotient}
-use Rattle.rational.specs.Fraction.{Frac, Equal, _≤ᶠ_}
 use Rattle.rational.specs.Promises.{over}
-use Rattle.rational.proofs.RationalOrder.{keeps}
-use Rattle.rational.proofs.Order.{test-yes, ≤ℤ-or-<ℤ, ≤ℤ-trans, ≤ℤ-reflexive, ≤ℤ-certificate, <ℤ-≤ℤ, pos-mono, pos-reflects, negℤ-anti, <ℤ-suc, suc-<ℤ}
+use Rattle.rational.proofs.RationalOrder.{at-most-equal}
+use Rattle.rational.proofs.Near.{near-down, near-up}
+use Rattle.rational.proofs.Order.{≤ℤ-trans, ≤ℤ-<ℤ-trans, ≤ℤ-reflexive, ≤ℤ-certificate, <ℤ-≤ℤ, <ℤ-suc, suc-<ℤ, below-not, pos-mono, pos-reflects, negℤ-anti}
 use Rattle.curve.specs.Limits.{maxSide}
 use Rattle.curve.specs.Promises.{negative}
 use Rattle.curve.specs.Inner.{Side}
-use Rattle.curve.proofs.Tests.{true-of}
 use Rattle.bridge.specs.Value.{signed, ohms}
 use Rattle.bridge.proofs.Compare.{signed-times, value-below, value-at-most}
 use Rattle.bridge.proofs.Exact.{exact-value}
-use Rattle.bridge.proofs.Near.{≤ℤ-<ℤ-trans, near-down, near-up}
-
-false-of : (b : Bool) → (T b → ⊥) → b ≡ false
-false-of true h = absurd (h tt)
-false-of false h = refl
 
 -- ---- two floats by their values
-
--- equal fractions compare alike
-scaled-at-most : (a b a′ b′ : Frac) → Equal a a′ → Equal b b′ →
-    leZ (a .upper *ℤ pos (b .lower)) (b .upper *ℤ pos (a .lower)) ≡ leZ (a′ .upper *ℤ pos (b′ .lower)) (b′ .upper *ℤ pos (a′ .lower))
-scaled-at-most a b a′ b′ h k =
-    same-truth _ _
-    (λ t. true-of _ (keeps a b a′ b′ h k (record { crosswise = test-yes t }) .crosswise .le))
-    (λ t. true-of _ (keeps a′ b′ a b (turned h) (turned k) (record { crosswise = test-yes t }) .crosswise .le))
-  where
-    turned : {a b : Frac} → Equal a b → Equal b a
-    turned h = record { crosswise = sym (h .crosswise) }
-
--- below is not at least
-below-not : (a b : ℤ) → ltZ a b ≡ not (leZ b a)
-below-not a b = elim (≤ℤ-or-<ℤ b a) [
-  | inl k ↦ false-of (ltZ a b) (λ t. clashℤ (ltZ-yes t) k) ∙ sym (ap not (true-of (leZ b a) (k .le)))
-  | inr k ↦ true-of (ltZ a b) (k .lt) ∙ sym (ap not (false-of (leZ b a) (λ t. clashℤ k (leZ-yes t))))
-]
 
 module _ (x y : Float) (s : Bool) (a c : ℕ) (t : Bool) (b d : ℕ) (c-positive : 0 < c) (d-positive : 0 < d) where
   pub at-most-values : HasValue x s a c → HasValue y t b d → le x y ≡ leZ (signed s a *ℤ pos d) (signed t b *ℤ pos c)
   at-most-values v w =
       let (x-finite, x-equal) = exact-value x s a c c-positive v in
       let (y-finite, y-equal) = exact-value y t b d d-positive w in
-      value-at-most x y x-finite y-finite ∙ scaled-at-most (ohms x) (ohms y) (over c c-positive (signed s a)) (over d d-positive (signed t b)) x-equal y-equal
+      value-at-most x y x-finite y-finite ∙ at-most-equal (ohms x) (ohms y) (over c c-positive (signed s a)) (over d d-positive (signed t b)) x-equal y-equal
 
   pub below-values : HasValue x s a c → HasValue y t b d → lt x y ≡ ltZ (signed s a *ℤ pos d) (signed t b *ℤ pos c)
   below-values v w =
@@ -71,7 +45,7 @@ module _ (x y : Float) (s : Bool) (a c : ℕ) (t : Bool) (b d : ℕ) (c-positive
       let second = ohms y .upper *ℤ pos (ohms x .lower) in
       value-below x y x-finite y-finite
       ∙ below-not first second
-      ∙ ap not (scaled-at-most (ohms y) (ohms x) (over d d-positive (signed t b)) (over c c-positive (signed s a)) y-equal x-equal)
+      ∙ ap not (at-most-equal (ohms y) (ohms x) (over d d-positive (signed t b)) (over c c-positive (signed s a)) y-equal x-equal)
       ∙ sym (below-not (signed s a *ℤ pos d) (signed t b *ℤ pos c))
 
 -- ---- a float cut to a whole number
@@ -125,6 +99,15 @@ within-one s a c h = subst (λ (z : ℤ). (signed s a <ℤ (z +ℤ pos c)) × (z
     go false = (less, more)
     go true = (mirrored (pos (a / c * c)) (pos a) (pos c) more, mirrored (pos a) (pos (a / c * c)) (pos c) less)
 
+-- a comparison as a number, taken off or added
+one-less : (b : Bool) (z : ℤ) → z -ℤ pos (boolByte b) ≡ cond b (z -ℤ pos 1) z
+one-less true z = refl
+one-less false z = +ℤ-idr z
+
+one-more : (b : Bool) (z : ℤ) → z +ℤ pos (boolByte b) ≡ cond b (z +ℤ pos 1) z
+one-more true z = refl
+one-more false z = +ℤ-idr z
+
 -- what cutting a float within range of its fraction gives
 module _ (y : Float) (s : Bool) (a c : ℕ) (positive : 0 < c) (few : a ≤ maxSide * c) (v : HasValue y s a c) where
   quotient-few : a / c ≤ maxSide
@@ -176,7 +159,13 @@ module _ (y : Float) (s : Bool) (a c : ℕ) (positive : 0 < c) (few : a ≤ maxS
   near = subst (λ (z : ℤ). (signed s a <ℤ (z *ℤ pos c +ℤ pos c)) × ((z *ℤ pos c) <ℤ (signed s a +ℤ pos c))) (sym truncated) (within-one s a c positive)
 
   pub cut-down : toSigned 63 y -ℤ pos (boolByte (lt y (ofInt binary32 (toSigned 63 y)))) ≡ quotient down (signed s a) c
-  cut-down = rw below-cut (sym (near-down c positive (toSigned 63 y) (signed s a) (near .0) (near .1)))
+  cut-down =
+      ap (λ (b : Bool). toSigned 63 y -ℤ pos (boolByte b)) below-cut
+      ∙ one-less (ltZ (signed s a) (toSigned 63 y *ℤ pos c)) (toSigned 63 y)
+      ∙ sym (near-down c positive (toSigned 63 y) (signed s a) (near .0) (near .1))
 
   pub cut-up : toSigned 63 y +ℤ pos (boolByte (lt (ofInt binary32 (toSigned 63 y)) y)) ≡ quotient up (signed s a) c
-  cut-up = rw above-cut (sym (near-up c positive (toSigned 63 y) (signed s a) (near .0) (near .1)))
+  cut-up =
+      ap (λ (b : Bool). toSigned 63 y +ℤ pos (boolByte b)) above-cut
+      ∙ one-more (ltZ (toSigned 63 y *ℤ pos c) (signed s a)) (toSigned 63 y)
+      ∙ sym (near-up c positive (toSigned 63 y) (signed s a) (near .0) (near .1))

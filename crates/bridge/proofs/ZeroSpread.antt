@@ -2,10 +2,9 @@
 -- Assumes nothing.
 use mathlib.Core.Path.{_≡_, refl, sym, ap, ap₂, _∙_}
 use mathlib.Core.Bool.{Bool, true, false}
-use Prim.Native.Nat.{ℕ}
 use borrow.Author.Tests.{eqb-false}
-use lib.Dec.{T, eqb}
-use lib.IntN.{ℤ, pos, _+ℤ_, _-ℤ_, +ℤ-idr}
+use lib.Dec.{T}
+use lib.IntN.{ℤ, pos, _+ℤ_, +ℤ-idr}
 use lib.Ieee.{Float, fin}
 use Rattle.rational.specs.Rounding.{down, up, quotient, floor, ceiling}
 use Rattle.rational.specs.Fraction.{_*ᶠ_, whole}
@@ -16,7 +15,7 @@ use Rattle.curve.specs.Rect.{inRange, endsInRange}
 use Rattle.curve.specs.Refusals.{none, _orElse_, unlessAt}
 use Rattle.rational.proofs.Truth.{both-and}
 use Rattle.curve.proofs.Tests.{true-of}
-use Rattle.curve.proofs.Refused.{or-first, or-second, by-number, settled-or, settled-unless}
+use Rattle.curve.proofs.Refused.{or-first, by-number, settled-or, settled-unless}
 use Rattle.curve.proofs.Accepted.{side-range}
 use Rattle.bridge.specs.Value.{finite, ohms, steps, stepAt, stepsAbout, isFrom, isLoad, isSpread}
 use Rattle.bridge.specs.Bridge.{widened, loadRect, spreadRect, loadRefusal, numberRefusal, sideRefusal, spreadRefusal, answered, enclosed}

@@ -112,7 +112,7 @@ unfolding parameterRefusal
 number-parameter num den h =
     let (first, second) = or-split (unless (leb 1 den && leb den maxDen) 4) (unless (leb num den) 5) h in
     let (low, high) = between-holds den maxDen 3 first in
-    let most = leb→le num den (unless-holds (leb num den) 4 second) in
+    let most = leb→le num den (unless-holds (leb num den) 4 0 second) in
     record { factors = record { total = omega arith; positive = low; small = high }; most = most }
 
 parameter-accepted : (num den : ℕ) → ParameterFacts num den → AcceptedAt num den
@@ -146,7 +146,7 @@ accepted-call c num den a b = call-parameter c num den a ∙ b
 -- the degree is below the highest
 pub number-highest : (n : ℕ) → highestRefusal n .number ≡ 0 → n < maxDegree
 unfolding highestRefusal
-number-highest n h = ltb→lt n maxDegree (unless-holds (ltb n maxDegree) 5 h)
+number-highest n h = ltb→lt n maxDegree (unless-holds (ltb n maxDegree) 5 0 h)
 
 pub highest-accepted : (n : ℕ) → n < maxDegree → highestRefusal n ≡ none
 unfolding highestRefusal

@@ -8,7 +8,7 @@ use native.Mathlib.Nat.{eq-or-lt-of-le}
 use native.Mathlib.Omega.{arith}
 use lib.Dec.{T, leb, eqb, eqb→eq, leb→le, le→leb}
 use Rattle.curve.specs.declared.Refusal.{Refusal}
-use Rattle.curve.specs.Refusals.{none, refusal, _orElse_, unless, firstFailing}
+use Rattle.curve.specs.Refusals.{none, refusal, _orElse_, unlessAt, unless, firstFailing}
 
 -- ---- tests
 
@@ -38,9 +38,9 @@ or-split a b h = go (eqb (a .number) 0) refl
 pub or-none : (a b : Refusal) → a ≡ none → (a orElse b) ≡ b
 or-none a b h = ap (λ (x : Refusal). x orElse b) h
 
-pub unless-holds : (ok : Bool) (number : ℕ) → unless ok (suc number) .number ≡ 0 → T ok
-unless-holds true number h = tt
-unless-holds false number h = let z : suc number ≡ 0 = h in absurd (omega arith)
+pub unless-holds : (ok : Bool) (number place : ℕ) → unlessAt ok (suc number) place .number ≡ 0 → T ok
+unless-holds true number place h = tt
+unless-holds false number place h = let z : suc number ≡ 0 = h in absurd (omega arith)
 
 pub unless-none : (ok : Bool) (number : ℕ) → T ok → unless ok number ≡ none
 unless-none true number t = refl
@@ -67,7 +67,7 @@ first-none ok number (suc m) from h =
 -- a number from 1 to k
 pub between-holds : (x k number : ℕ) → unless (leb 1 x && leb x k) (suc number) .number ≡ 0 → (1 ≤ x) × (x ≤ k)
 between-holds x k number h =
-    let (low, high) = both (leb 1 x) (leb x k) (unless-holds (leb 1 x && leb x k) number h) in
+    let (low, high) = both (leb 1 x) (leb x k) (unless-holds (leb 1 x && leb x k) number 0 h) in
     (leb→le 1 x low, leb→le x k high)
 
 pub between-none : (x k number : ℕ) → 1 ≤ x → x ≤ k → unless (leb 1 x && leb x k) number ≡ none

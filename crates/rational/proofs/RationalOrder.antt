@@ -39,11 +39,11 @@ keeps a b a′ b′ h k l = record {
         ∙ ap (λ x. x *ℤ (pos (a′ .lower) *ℤ pos (a .lower))) (k .crosswise)
         ∙ first (b′ .upper) (pos (b .lower)) (pos (a′ .lower)) (pos (a .lower))
 
-at-most : Frac → Frac → Bool
+-- the test of the order, which equal fractions pass alike
+abbrev pub at-most : Frac → Frac → Bool
 at-most a b = leZ (a .upper *ℤ pos (b .lower)) (b .upper *ℤ pos (a .lower))
 
-at-most-equal : (a b a′ b′ : Frac) → Equal a a′ → Equal b b′ → at-most a b ≡ at-most a′ b′
-unfolding at-most
+pub at-most-equal : (a b a′ b′ : Frac) → Equal a a′ → Equal b b′ → at-most a b ≡ at-most a′ b′
 at-most-equal a b a′ b′ h k = same (at-most a b) (at-most a′ b′)
     (λ t. keeps a b a′ b′ h k (record { crosswise = leZ-yes t }) .crosswise .le)
     (λ t. keeps a′ b′ a b (record { crosswise = sym (h .crosswise) }) (record { crosswise = sym (k .crosswise) }) (record { crosswise = leZ-yes t }) .crosswise .le)
@@ -68,11 +68,11 @@ pub ≤ℚ-prop : (x y : ℚ) → IsProp (x ≤ℚ y)
 -- ---- it is the order of the fractions
 
 pub ≤ℚ-of : {a b : Frac} → a ≤ᶠ b → rat a ≤ℚ rat b
-unfolding ℚ rat test at-most
+unfolding ℚ rat test
 ≤ℚ-of h = record { passed = h .crosswise .le }
 
 pub ≤ᶠ-of : (a b : Frac) → rat a ≤ℚ rat b → a ≤ᶠ b
-unfolding ℚ rat test at-most
+unfolding ℚ rat test
 ≤ᶠ-of a b h = record { crosswise = leZ-yes (h .passed) }
 
 pub ≤ℚ-refl : (x : ℚ) → x ≤ℚ x

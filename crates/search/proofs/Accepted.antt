@@ -41,8 +41,8 @@ module _ (c : Curve) (box : Rect) (depth budget : ℕ) where
       let (low, high) = between-holds budget maxBudget 8 budget-none in
       record {
         accepted = number-accepted c curve-none;
-        sides = unless-holds (isBox box) 6 box-none;
-        shallow = leb→le depth maxDepth (unless-holds (leb depth maxDepth) 7 depth-none);
+        sides = unless-holds (isBox box) 6 0 box-none;
+        shallow = leb→le depth maxDepth (unless-holds (leb depth maxDepth) 7 0 depth-none);
         some = low;
         few = high;
       }

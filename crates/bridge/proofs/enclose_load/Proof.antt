@@ -2,15 +2,13 @@
 -- Assumes nothing.
 use mathlib.Core.Path.{_≡_, sym, ap, ap₂, _∙_, subst}
 use lib.Dec.{T}
-use lib.IntN.{ℤ}
 use lib.Ieee.{Float}
 use borrow.Author.Needs.{needs}
 use Rattle.rational.specs.Rounding.{down, up}
 use Rattle.curve.specs.declared.Interval.{Interval}
 use Rattle.curve.specs.declared.Rect.{Rect}
-use Rattle.curve.specs.declared.Refusal.{Refusal}
 use Rattle.curve.specs.Inner.{Side, Sides}
-use Rattle.curve.proofs.Sides.{side-back, side-passed}
+use Rattle.curve.proofs.Sides.{side-back}
 use Rattle.curve.proofs.Refused.{number-passed}
 use mir.Syntax.{w32}
 use mir.Val.{toZ, ofZ}

@@ -1,6 +1,6 @@
 -- `steps_about` meets its contract: the cut is a side, and moved by one where it lies on the wrong side it is the step below or above.
 -- Assumes nothing.
-use mathlib.Core.Path.{_≡_, refl, sym, ap, ap₂, _∙_, subst}
+use mathlib.Core.Path.{_≡_, refl, sym, ap, _∙_, subst}
 use mathlib.Core.Bool.{Bool, true, false}
 use lib.Dec.{T}
 use lib.IntN.{ℤ, pos, _+ℤ_, _-ℤ_}
@@ -9,7 +9,7 @@ use mir.Syntax.{w32, w64}
 use mir.Val.{SFits, toZ, ofZ, boolByte}
 use mir.ValLaws.{toZ-ofZ}
 use borrow.Author.Needs.{needs}
-use Rattle.rational.specs.Rounding.{Rounding, down, up}
+use Rattle.rational.specs.Rounding.{down, up}
 use Rattle.curve.specs.Inner.{Side}
 use Rattle.curve.proofs.Sides.{side-fits, side-in-float, side-back, wide}
 use Rattle.bridge.specs.Value.{stepAt, stepsAbout}

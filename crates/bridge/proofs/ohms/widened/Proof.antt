@@ -1,10 +1,10 @@
 -- `widened` meets its contract: sides moved by a side fit an i32.
 -- Assumes nothing.
-use mathlib.Core.Path.{_≡_, sym, ap₂, subst, subst₂}
+use mathlib.Core.Path.{sym, subst₂}
 use native.Mathlib.Omega.{arith}
-use lib.IntN.{ℤ, pos, negℤ, _+ℤ_, _-ℤ_}
+use lib.IntN.{ℤ, negℤ, _+ℤ_, _-ℤ_}
 use mir.Syntax.{w32}
-use mir.Val.{SFits, toZ, ofZ}
+use mir.Val.{SFits}
 use Rattle.rational.specs.Rounding.{down, up}
 use Rattle.rational.proofs.Order.{+ℤ-mono, negℤ-anti}
 use Rattle.curve.specs.Inner.{Side}

@@ -1,29 +1,16 @@
 -- A whole number that is less than one from an exact quotient tells both of its roundings, over any divisor: it is moved by one where it lies on the wrong side.
 -- Assumes nothing.
 use mathlib.Core.Path.{_≡_, refl, sym, ap, _∙_, subst}
-use mathlib.Core.Bool.{Bool, true, false, not}
+use mathlib.Core.Bool.{Bool, true, false, not, cond}
 use mathlib.Core.Logic.{inl, inr}
 use Prim.Native.Nat.{ℕ, _<_}
 use lib.Dec.{T}
-use lib.IntN.{ℤ, pos, negℤ, _+ℤ_, _-ℤ_, _*ℤ_, +ℤ-idr, +ℤ-assoc, +ℤ-comm, -ℤ-+ℤ-cancel}
+use lib.IntN.{ℤ, pos, _+ℤ_, _-ℤ_, _*ℤ_, -ℤ-+ℤ-cancel}
 use lib.Signed.{_≤ℤ_, _<ℤ_, ltZ, ltZ-yes, ltZ-no, <ℤ-≤ℤ-trans, clashℤ}
-use mir.Val.{boolByte}
 use Rattle.rational.specs.Rounding.{down, up, quotient}
-use Rattle.rational.proofs.Whole.{add-mul, add-left-comm, one-mul}
-use Rattle.rational.proofs.Order.{≤ℤ-trans, ≤ℤ-antisymm, ≤ℤ-reflexive, ≤ℤ-certificate, ≤ℤ-or-<ℤ, <ℤ-suc, suc-<ℤ, <ℤ-≤ℤ, +ℤ-mono-right, *ℤ-mono}
+use Rattle.rational.proofs.Whole.{add-mul, one-mul}
+use Rattle.rational.proofs.Order.{≤ℤ-trans, ≤ℤ-antisymm, ≤ℤ-reflexive, ≤ℤ-or-<ℤ, ≤ℤ-<ℤ-trans, <ℤ-suc, <ℤ-≤ℤ, +ℤ-strict, +ℤ-cancel-right, +ℤ-mono-right, *ℤ-mono}
 use Rattle.rational.proofs.Quotient.{rounds-down, rounds-up}
-
-pub ≤ℤ-<ℤ-trans : {a b c : ℤ} → a ≤ℤ b → b <ℤ c → a <ℤ c
-≤ℤ-<ℤ-trans h k = suc-<ℤ (≤ℤ-trans (+ℤ-mono-right (pos 1) h) (<ℤ-suc k))
-
-+ℤ-cancel-right : {a b : ℤ} (c : ℤ) → (a +ℤ c) ≤ℤ (b +ℤ c) → a ≤ℤ b
-+ℤ-cancel-right {a} {b} c h = ≤ℤ-certificate h (simp (+ℤ-assoc, +ℤ-comm, add-left-comm))
-
-+ℤ-strict : {a b : ℤ} (c : ℤ) → a <ℤ b → (a +ℤ c) <ℤ (b +ℤ c)
-+ℤ-strict {a} {b} c h = suc-<ℤ (≤ℤ-trans (≤ℤ-reflexive (swap a c (pos 1))) (+ℤ-mono-right c (<ℤ-suc h)))
-  where
-    swap : (a c o : ℤ) → a +ℤ c +ℤ o ≡ a +ℤ o +ℤ c
-    swap a c o = simp (+ℤ-assoc, +ℤ-comm)
 
 module _ (d : ℕ) (positive : 0 < d) where
   next : (m : ℤ) → (m +ℤ pos 1) *ℤ pos d ≡ m *ℤ pos d +ℤ pos d
@@ -50,20 +37,20 @@ module _ (d : ℕ) (positive : 0 < d) where
   before m = sym (next (m -ℤ pos 1)) ∙ ap (λ x. x *ℤ pos d) (-ℤ-+ℤ-cancel m (pos 1))
 
   module _ (m z : ℤ) (most : z <ℤ (m *ℤ pos d +ℤ pos d)) (least : (m *ℤ pos d) <ℤ (z +ℤ pos d)) where
-    pub near-down : quotient down z d ≡ m -ℤ pos (boolByte (ltZ z (m *ℤ pos d)))
+    pub near-down : quotient down z d ≡ cond (ltZ z (m *ℤ pos d)) (m -ℤ pos 1) m
     near-down = go (ltZ z (m *ℤ pos d)) refl
       where
-        go : (b : Bool) → ltZ z (m *ℤ pos d) ≡ b → quotient down z d ≡ m -ℤ pos (boolByte b)
+        go : (b : Bool) → ltZ z (m *ℤ pos d) ≡ b → quotient down z d ≡ cond b (m -ℤ pos 1) m
         go true e =
             down-is (m -ℤ pos 1) z (+ℤ-cancel-right (pos d) (≤ℤ-trans (≤ℤ-reflexive (before m)) (<ℤ-≤ℤ least)))
             (<ℤ-≤ℤ-trans (ltZ-yes (subst T (sym e) tt)) (≤ℤ-reflexive (sym (before m))))
-        go false e = down-is m z (ltZ-no (subst (λ (b : Bool). T (not b)) (sym e) tt)) most ∙ sym (+ℤ-idr m)
+        go false e = down-is m z (ltZ-no (subst (λ (b : Bool). T (not b)) (sym e) tt)) most
 
-    pub near-up : quotient up z d ≡ m +ℤ pos (boolByte (ltZ (m *ℤ pos d) z))
+    pub near-up : quotient up z d ≡ cond (ltZ (m *ℤ pos d) z) (m +ℤ pos 1) m
     near-up = go (ltZ (m *ℤ pos d) z) refl
       where
-        go : (b : Bool) → ltZ (m *ℤ pos d) z ≡ b → quotient up z d ≡ m +ℤ pos (boolByte b)
+        go : (b : Bool) → ltZ (m *ℤ pos d) z ≡ b → quotient up z d ≡ cond b (m +ℤ pos 1) m
         go true e =
             up-is (m +ℤ pos 1) z (≤ℤ-trans (<ℤ-≤ℤ most) (≤ℤ-reflexive (sym (next m))))
             (≤ℤ-<ℤ-trans (≤ℤ-reflexive (next m)) (+ℤ-strict {a = m *ℤ pos d} {b = z} (pos d) (ltZ-yes (subst T (sym e) tt))))
-        go false e = up-is m z (ltZ-no (subst (λ (b : Bool). T (not b)) (sym e) tt)) least ∙ sym (+ℤ-idr m)
+        go false e = up-is m z (ltZ-no (subst (λ (b : Bool). T (not b)) (sym e) tt)) least
