@@ -106,6 +106,8 @@ impl Trial<'_> {
         match number {
             2 => self.tally.cover(Line::OutOfRange, place as usize),
             3 => self.tally.cover(Line::Crossed, place as usize),
+            13 => self.tally.cover(Line::MeasuredPlaces, place as usize),
+            14 => self.tally.cover(Line::WidenedPlaces, place as usize),
             _ => {}
         }
     }
