@@ -25,6 +25,7 @@ pub mod rng;
 // What is compared.
 pub mod calls;
 pub mod cards;
+pub mod enclosed;
 pub mod flags;
 pub mod lent;
 pub mod lists;

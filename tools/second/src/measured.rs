@@ -1,10 +1,9 @@
-//! The bridge's call beside the model, on measurements of every form, and what is promised of its
-//! rectangles besides.
+//! The bridge's call beside the model, on measurements of every form.
 
 use crate::bridge::steps_of;
 use crate::calls::RECT_ROOM;
 use crate::coverage::{Line, Row};
-use crate::door::{Door, ENCLOSED, FOUR, MODEL};
+use crate::door::{ENCLOSED, FOUR, MODEL};
 use crate::lent::{Compared, Lent, LentNumber};
 use crate::model::MAX_SIDE;
 use crate::pattern::{self, SIGN, SPECIALS};
@@ -13,7 +12,7 @@ use crate::trial::{number_and_place, Counted, Trial, SPARE};
 
 /// The numbers of a load, and of a load with a spread.
 const LOAD: usize = 2;
-const WITH_SPREAD: usize = 3;
+pub const WITH_SPREAD: usize = 3;
 /// The most numbers lent: those of a load with a spread, and a few that are not to be read.
 const MOST_LENT: usize = WITH_SPREAD + SPARE;
 
@@ -22,23 +21,23 @@ const EDGE_TIMES: usize = 4;
 /// One in so many answers is tried for what is promised besides.
 const TRIED: u64 = 8;
 
-/// Where a number of each place is counted: without the sign, with it, by its exponent and by its edge.
-const NUMBERS: [[Line; 4]; WITH_SPREAD] = [
+/// Where a number of each place is counted: its kind with a plus and with a minus, its exponent, its edge.
+const NUMBER_LINES: [[Line; 4]; WITH_SPREAD] = [
     [
-        Line::ResistanceAbove,
-        Line::ResistanceBelow,
+        Line::ResistancePlus,
+        Line::ResistanceMinus,
         Line::ResistanceExponents,
         Line::ResistanceEdges,
     ],
     [
-        Line::ReactanceAbove,
-        Line::ReactanceBelow,
+        Line::ReactancePlus,
+        Line::ReactanceMinus,
         Line::ReactanceExponents,
         Line::ReactanceEdges,
     ],
     [
-        Line::SpreadAbove,
-        Line::SpreadBelow,
+        Line::SpreadPlus,
+        Line::SpreadMinus,
         Line::SpreadExponents,
         Line::SpreadEdges,
     ],
@@ -108,11 +107,10 @@ fn spread_length(rng: &mut Rng) -> usize {
 /// Compares the numbers at the ends and the middle of one exponent field with its sign, at every place of
 /// every form, among numbers that are not refused.
 pub fn compare_edges(trial: &mut Trial, field: usize) -> Result<(), String> {
-    for edge in pattern::edges_of(field) {
-        for place in 0..WITH_SPREAD {
-            for length in place + 1..=MOST_LENT {
-                (0..EDGE_TIMES).try_for_each(|_| compare_edge(trial, edge, place, length))?;
-            }
+    let edges = pattern::edges_of(field).into_iter();
+    for (edge, place) in edges.flat_map(|edge| (0..WITH_SPREAD).map(move |k| (edge, k))) {
+        for length in place + 1..=MOST_LENT {
+            (0..EDGE_TIMES).try_for_each(|_| compare_edge(trial, edge, place, length))?;
         }
     }
     Ok(())
@@ -186,7 +184,7 @@ impl Trial<'_> {
             _ => WITH_SPREAD,
         };
         let numbers = ohms.iter().map(|ohms| ohms.to_bits());
-        for (lines, bits) in NUMBERS.iter().zip(numbers).take(looked_at) {
+        for (lines, bits) in NUMBER_LINES.iter().zip(numbers).take(looked_at) {
             self.count_number(*lines, bits);
         }
         if number != 13 && ohms.len() > LOAD {
@@ -194,8 +192,8 @@ impl Trial<'_> {
         }
     }
 
-    fn count_number(&mut self, [above, below, exponents, edges]: [Line; 4], bits: u32) {
-        let line = if bits & SIGN == 0 { above } else { below };
+    fn count_number(&mut self, [plus, minus, exponents, edges]: [Line; 4], bits: u32) {
+        let line = if bits & SIGN == 0 { plus } else { minus };
         self.tally.cover(line, pattern::kind(bits) as usize);
         self.tally.cover(exponents, pattern::exponent(bits));
         if let Some(edge) = pattern::edge(bits) {
@@ -217,142 +215,13 @@ impl Trial<'_> {
             }
         }
     }
-
-    /// A rectangle that came is accepted as a control point: the bounds of the curve that stays there.
-    fn try_point(&mut self, rect: &[i32]) -> Result<(), String> {
-        let mut bounds = [0; FOUR];
-        let answer = (self.door.bounds)(1, &[rect, rect].concat(), &mut bounds);
-        let same = answer == 0 && bounds == *rect;
-        self.tally.compare(Row::EnclosedPoint, same, || {
-            format!("{rect:?}\nbounds {answer:#x} {bounds:?}")
-        })
-    }
-
-    /// A load with a spread of zero or minus zero has the plain load's answer.
-    fn try_zero_spread(&mut self, ohms: &[f32]) -> Result<(), String> {
-        let [r, x, ..] = *ohms else { return Ok(()) };
-        let minus = self.rng.one_in(2);
-        let zero = if minus { -0.0 } else { 0.0 };
-        let plain = Answered::by(self.door, &[r, x]);
-        let came = Answered::by(self.door, &[r, x, zero]);
-        let value = 2 * usize::from(plain.answer == 0) + usize::from(minus);
-        self.tally.cover(Line::ZeroSpreads, value);
-        self.tally.compare(Row::ZeroSpread, plain == came, || {
-            let ohms = shown(&[r, x, zero]);
-            format!("{ohms}\nplain {plain:?}\nwith the spread {came:?}")
-        })
-    }
-
-    /// A zero with the other sign has the same answer.
-    fn try_minus_zero(&mut self, ohms: &[f32]) -> Result<(), String> {
-        let read = &ohms[..ohms.len().min(WITH_SPREAD)];
-        if !read.iter().any(is_zero) {
-            return Ok(());
-        }
-        let mut other = read.to_vec();
-        for (place, zero) in other
-            .iter_mut()
-            .enumerate()
-            .filter(|(_, ohms)| is_zero(ohms))
-        {
-            *zero = f32::from_bits(zero.to_bits() ^ SIGN);
-            self.tally.cover(Line::ZeroPlaces, place);
-        }
-        let answers = [read, &other].map(|ohms| Answered::by(self.door, ohms));
-        let same = answers[0] == answers[1];
-        self.tally.compare(Row::MinusZero, same, || {
-            format!("{}\n{}\n{answers:?}", shown(read), shown(&other))
-        })
-    }
-}
-
-fn is_zero(ohms: &f32) -> bool {
-    ohms.to_bits() & !SIGN == 0
-}
-
-/// What a call answers and leaves, from buffers that are the same each time.
-#[derive(PartialEq, Debug)]
-struct Answered {
-    answer: u64,
-    rect: [i32; FOUR],
-    found: u32,
-}
-
-impl Answered {
-    fn by(door: &Door, ohms: &[f32]) -> Answered {
-        let (mut rect, mut found) = ([7; FOUR], 7);
-        let answer = (door.enclose)(ohms, &mut rect, &mut found);
-        Answered {
-            answer,
-            rect,
-            found,
-        }
-    }
 }
 
 /// Numbers with their bits.
-fn shown(ohms: &[f32]) -> String {
+pub fn shown(ohms: &[f32]) -> String {
     let numbers = ohms
         .iter()
         .map(|ohms| format!("{ohms:e} ({:#010x})", ohms.to_bits()));
     let numbers: Vec<String> = numbers.collect();
     format!("{} ohms lent: {}", ohms.len(), numbers.join(", "))
-}
-
-#[cfg(test)]
-mod tests {
-    use super::*;
-    use crate::door::OnMeasured;
-    use crate::tally::Tally;
-
-    /// Whether what is promised holds of the answers of a call on a load of 1 ohm and zero reactance.
-    fn promises_hold(
-        enclose: OnMeasured,
-        tried: impl FnOnce(&mut Trial, &[f32]) -> Result<(), String>,
-    ) -> bool {
-        let (door, mut rng, mut tally) =
-            (Door { enclose, ..MODEL }, Rng::new(12), Tally::default());
-        let mut trial = Trial {
-            door: &door,
-            rng: &mut rng,
-            tally: &mut tally,
-        };
-        tried(&mut trial, &[1.0, 0.0]).is_ok()
-    }
-
-    #[test]
-    fn finds_a_broken_promise() {
-        let widened: OnMeasured = |ohms, rect, found| match *ohms {
-            [r, x, _] => (MODEL.enclose)(&[r, x, 1.0], rect, found),
-            _ => (MODEL.enclose)(ohms, rect, found),
-        };
-        let below: OnMeasured = |ohms, rect, found| {
-            let answer = (MODEL.enclose)(ohms, rect, found);
-            rect[2] -= i32::from(ohms[1].to_bits() == SIGN);
-            answer
-        };
-        for (enclose, zero_spread, minus_zero) in [
-            (MODEL.enclose, true, true),
-            (widened, false, true),
-            (below, true, false),
-        ] {
-            let held = promises_hold(enclose, |trial, ohms| trial.try_zero_spread(ohms));
-            assert_eq!(held, zero_spread);
-            let held = promises_hold(enclose, |trial, ohms| trial.try_minus_zero(ohms));
-            assert_eq!(held, minus_zero);
-        }
-    }
-
-    #[test]
-    fn finds_a_rectangle_that_is_no_control_point() {
-        let rectangles = [
-            ([0, 1, -1, 0], true),
-            ([1, 0, 0, 0], false),
-            ([0, 0, 0, 16_777_217], false),
-        ];
-        for (rect, accepted) in rectangles {
-            let held = promises_hold(MODEL.enclose, |trial, _| trial.try_point(&rect));
-            assert_eq!(held, accepted, "{rect:?}");
-        }
-    }
 }

@@ -110,22 +110,26 @@ pub fn kind(bits: u32) -> Number {
 
 /// A resistance or a reactance, mostly an accepted one.
 pub fn load(rng: &mut Rng) -> u32 {
-    match rng.below(16) {
+    match rng.below(17) {
         0 => special(rng.up_to(SPECIALS - 1)),
-        1 => signed(rng, LIMIT).wrapping_add(rng.between(-2, 2) as u32),
+        1 => signed(rng, 0),
+        2 => beside(rng, LIMIT),
         // Whole steps, half steps, and beside a whole step.
-        2..=5 => ohm_bits(rng.between(-MAX_SIDE, MAX_SIDE)),
-        6..=8 => ohm_bits(odd(rng, MAX_SIDE)) - (1 << 23),
-        9..=11 => ohm_bits(odd(rng, 5_000)).wrapping_add(rng.between(-2, 2) as u32),
+        3..=6 => ohm_bits(rng.between(-MAX_SIDE, MAX_SIDE)),
+        7..=9 => ohm_bits(odd(rng, MAX_SIDE)) - (1 << 23),
+        10..=12 => {
+            let whole = ohm_bits(odd(rng, 5_000));
+            beside(rng, whole)
+        }
         _ => moderate(rng),
     }
 }
 
-/// A spread, mostly an accepted one.
+/// A spread, mostly an accepted one; one in eight has a minus.
 pub fn spread(rng: &mut Rng) -> u32 {
     let size = load(rng) & !SIGN;
-    if rng.one_in(16) {
-        return signed(rng, size);
+    if rng.one_in(8) {
+        return size | SIGN;
     }
     size
 }
@@ -176,6 +180,12 @@ fn moderate(rng: &mut Rng) -> u32 {
     let bits = rng.draw() as u32;
     let exponent = rng.between(90, 141) as u32;
     (bits & (SIGN | FRACTION)) | (exponent << 23)
+}
+
+/// A number or one of the two next ones on either side, with either sign.
+fn beside(rng: &mut Rng, bits: u32) -> u32 {
+    let beside = bits.wrapping_add_signed(rng.between(-2, 2) as i32);
+    signed(rng, beside)
 }
 
 /// A number with its sign changed in one of two.
