@@ -3,12 +3,12 @@
 use crate::bridge::steps_of;
 use crate::door::{Door, OnMeasured, ENCLOSED, FOUR, MODEL, NO_CARRIER};
 use crate::measured;
-use crate::pattern::{FIELDS, SIGN, SPECIALS};
+use crate::pattern::{is_whole, FIELDS, SIGN, SPECIALS};
 use crate::rng::Rng;
 use crate::tally::Tally;
 use crate::trial::{number_and_place, Trial, SHORT};
 
-const FAULTS: [(&str, OnMeasured); 22] = [
+const FAULTS: [(&str, OnMeasured); 24] = [
     (
         "a low side below zero rounded toward zero",
         |ohms, rect, found| {
@@ -168,6 +168,18 @@ const FAULTS: [(&str, OnMeasured); 22] = [
             answer
         },
     ),
+    ("12 tried before 14", |ohms, rect, found| {
+        let answer = (MODEL.enclose)(ohms, rect, found);
+        if number_and_place(answer).0 == 14 && rect.len() < FOUR {
+            return u64::from(SHORT) | (4 << 32);
+        }
+        answer
+    }),
+    ("a number past the rectangle", |ohms, rect, found| {
+        changed(ohms, rect, found, |sides| {
+            sides.iter_mut().skip(FOUR).for_each(|past| *past = 0);
+        })
+    }),
 ];
 
 /// The model's answer with other sides where there is a rectangle.
@@ -200,7 +212,7 @@ fn with(
 }
 
 fn is_between_steps(ohms: f32) -> bool {
-    steps_of(ohms.to_bits()).is_some_and(|steps| steps.low < steps.high)
+    !is_whole(ohms.to_bits())
 }
 
 fn without_subnormal(ohms: f32) -> f32 {

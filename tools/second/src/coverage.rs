@@ -461,12 +461,12 @@ pub const GROUPS: [Group; 13] = [
             (MeasuredPlaces, "places of 13", Span(0, 2), 100_000),
             (WidenedPlaces, "places of 14", Span(0, 1), 50_000),
             // A number counts where none before it is refused.
-            (ResistancePlus, "resistances with a plus", NUMBERS, 1_000),
-            (ResistanceMinus, "resistances with a minus", NUMBERS, 1_000),
-            (ReactancePlus, "reactances with a plus", NUMBERS, 1_000),
-            (ReactanceMinus, "reactances with a minus", NUMBERS, 1_000),
-            (SpreadPlus, "spreads with a plus", NUMBERS, 1_000),
-            (SpreadMinus, "spreads with a minus", NUMBERS, 1_000),
+            (ResistancePlus, "resistances with a plus", NUMBERS, 500),
+            (ResistanceMinus, "resistances with a minus", NUMBERS, 500),
+            (ReactancePlus, "reactances with a plus", NUMBERS, 500),
+            (ReactanceMinus, "reactances with a minus", NUMBERS, 500),
+            (SpreadPlus, "spreads with a plus", NUMBERS, 500),
+            (SpreadMinus, "spreads with a minus", NUMBERS, 500),
             (
                 ResistanceExponents,
                 "exponents of resistances",

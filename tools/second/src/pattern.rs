@@ -97,15 +97,18 @@ pub fn kind(bits: u32) -> Number {
         JUST_WITHIN => Number::JustWithin,
         LIMIT => Number::Limit,
         JUST_BEYOND => Number::JustBeyond,
-        size if size < LIMIT => {
-            let whole = steps_of(size).is_some_and(|steps| steps.low == steps.high);
-            [Number::BetweenSteps, Number::WholeSteps][usize::from(whole)]
-        }
+        size if size < LIMIT && is_whole(size) => Number::WholeSteps,
+        size if size < LIMIT => Number::BetweenSteps,
         size if size < INFINITY => Number::Beyond,
         INFINITY => Number::Infinite,
         size if size & QUIET != 0 => Number::QuietNan,
         _ => Number::SignallingNan,
     }
+}
+
+/// Whether a finite number is a whole number of steps.
+pub fn is_whole(bits: u32) -> bool {
+    steps_of(bits).is_some_and(|steps| steps.low == steps.high)
 }
 
 /// A resistance or a reactance, mostly an accepted one.
@@ -134,7 +137,7 @@ pub fn spread(rng: &mut Rng) -> u32 {
     size
 }
 
-/// A load that is accepted with every accepted form about it: within 1,000 steps.
+/// A load within 1,000 steps, beside which another number decides the answer.
 pub fn small(rng: &mut Rng) -> u32 {
     ohm_bits(rng.between(-1_000, 1_000))
 }
@@ -159,15 +162,14 @@ fn about_the_limit(rng: &mut Rng) -> (u32, u32) {
     let most = 1 << rng.up_to(24);
     let spread = rng.between(1, most);
     let load = MAX_SIDE + rng.between(-1, 1) - spread;
-    let [load, spread] = [load, spread].map(|steps| {
-        let inside = if steps.abs() < 1 << 21 {
-            rng.below(3)
-        } else {
-            0
-        };
-        ohm_bits(steps).saturating_sub(inside as u32)
-    });
+    let [load, spread] = [load, spread].map(|steps| inside(rng, steps));
     (signed(rng, load), spread)
+}
+
+/// Whole steps, or one of the next two numbers toward zero where these lie in the same step.
+fn inside(rng: &mut Rng, steps: i64) -> u32 {
+    let next = if steps.abs() < 1 << 21 { 2 } else { 0 };
+    ohm_bits(steps).saturating_sub(rng.up_to(next) as u32)
 }
 
 /// An odd number of steps, either way.
@@ -175,7 +177,7 @@ fn odd(rng: &mut Rng, most: i64) -> i64 {
     2 * rng.between(-most / 2, most / 2 - 1) + 1
 }
 
-/// Any fraction at an exponent for which a load is accepted, but for the last.
+/// Any fraction at an exponent up to that of 16,384 ohms.
 fn moderate(rng: &mut Rng) -> u32 {
     let bits = rng.draw() as u32;
     let exponent = rng.between(90, 141) as u32;
