@@ -1,5 +1,6 @@
 /* Measures the stack of each call: the call runs on a stack of its own, filled with a pattern before, and what it
- * touched is what no longer holds the pattern. Every call is made on every card with each pattern, the search so that
+ * touched is what no longer holds the pattern. The pattern is another at every place of 256, since a call may copy what
+ * it has not written, as the gaps of a record, from one place of its frame to another. Every call is made on every card with each pattern, the search so that
  * it reaches its greatest depth, and the bridge's call, which needs no card, on measurements of every form. Shows the
  * most bytes that each call took, and fails if the panel call took more than its bound.
  *
@@ -10,7 +11,6 @@
 #include <inttypes.h>
 #include <stdio.h>
 #include <stdlib.h>
-#include <string.h>
 #include <ucontext.h>
 
 #include "common.h"
@@ -121,12 +121,19 @@ static void fail(const char *what)
     exit(PROMISE_BROKEN);
 }
 
+/* The byte of a pattern at a place of the stack. */
+static uint8_t filling(int pattern, size_t place)
+{
+    return (uint8_t)(pattern + 151 * place);
+}
+
 /* The bytes from the caller's frame down to the last byte of a stack filled with a pattern that a call changed. */
 static size_t touched(void (*call)(void), int pattern)
 {
     static _Alignas(16) uint8_t stack[STACK_SIZE];
     static ucontext_t here, there;
-    memset(stack, pattern, sizeof stack);
+    for (size_t k = 0; k < sizeof stack; k++)
+        stack[k] = filling(pattern, k);
     if (getcontext(&there) != 0)
         fail("no context");
     there.uc_stack.ss_sp = stack;
@@ -136,7 +143,7 @@ static size_t touched(void (*call)(void), int pattern)
     if (swapcontext(&here, &there) != 0)
         fail("no context");
     size_t kept = 0;
-    while (kept < sizeof stack && stack[kept] == pattern)
+    while (kept < sizeof stack && stack[kept] == filling(pattern, kept))
         kept++;
     if (kept == 0)
         fail("the stack ran out");
