@@ -5,6 +5,8 @@
 #include <stdio.h>
 #include <stdlib.h>
 
+#include "jusqani.h"
+
 uint32_t argument(const char *text, uint32_t largest)
 {
     char *end;
@@ -38,6 +40,46 @@ const char *meaning(uint32_t number)
     case 10: return "the card has fewer than 11 bytes, or not the length for its degree";
     case 11: return "a column is malformed, or a line does not end with byte 10";
     case 12: return "a buffer for the result is too short";
+    case 13: return "a measured number is not finite, a load is beyond 16,384 ohms either way, or a spread is not 0 to "
+                    "16,384 ohms";
+    case 14: return "with the spread a side is out of range (16,384 ohms either way)";
     default: return "not a refusal of the calls that are used here";
+    }
+}
+
+/* The measured number that the place of a 13 or 14 names. */
+static const char *measured_number(uint32_t place)
+{
+    static const char *const words[] = {"the resistance", "the reactance", "the spread"};
+    return place < sizeof words / sizeof words[0] ? words[place] : "no measured number";
+}
+
+void show_refusal(uint64_t answer)
+{
+    uint32_t number = JUSQANI_NUMBER(answer);
+    uint32_t place = JUSQANI_PLACE(answer);
+    printf("refused %" PRIu32 ": %s", number, meaning(number));
+    switch (number) {
+    case 2:
+    case 3: printf(", in rectangle %" PRIu32 "\n", place); break;
+    case 10: printf(", it has %" PRIu32 " bytes\n", place); break;
+    case 11: printf(", at offset %" PRIu32 "\n", place); break;
+    case 12: printf(", the length %" PRIu32 " is needed\n", place); break;
+    case 13:
+    case 14: printf(", %s\n", measured_number(place)); break;
+    default: printf("\n"); break;
+    }
+}
+
+void show_load(const double ohms[4])
+{
+    printf("R %.15g to %.15g ohm, X %.15g to %.15g ohm", ohms[0], ohms[1], ohms[2], ohms[3]);
+}
+
+void require(int holds, const char *promise)
+{
+    if (!holds) {
+        printf("broken: %s\n", promise);
+        exit(PROMISE_BROKEN);
     }
 }

@@ -1,4 +1,4 @@
-/* What the clients share: their arguments, the card they are given, and the words for a refusal. */
+/* What the clients share: their arguments, the card they are given, and how they show a load or a refusal. */
 #ifndef CLIENT_COMMON_H
 #define CLIENT_COMMON_H
 
@@ -13,6 +13,8 @@
 /* The bytes of standard input that are taken as the card. */
 #define MAX_CARD 4096
 
+#define STEPS_PER_OHM 1024.0
+
 /* The number that an argument gives, at most a largest one; anything else ends the program. */
 uint32_t argument(const char *text, uint32_t largest);
 
@@ -21,5 +23,14 @@ size_t read_input(uint8_t card[MAX_CARD]);
 
 /* The header's words for a refusal's number. */
 const char *meaning(uint32_t number);
+
+/* Says what an answer refuses and where. */
+void show_refusal(uint64_t answer);
+
+/* Shows a load's four sides in ohms, without an end of line. */
+void show_load(const double ohms[4]);
+
+/* Ends the program where the library broke a promise. */
+void require(int holds, const char *promise);
 
 #endif

@@ -1,40 +1,21 @@
 /* Reads a card to a curve and evaluates it: shows the ohms that the call itself gives and whether they are exact, or a
  * refusal with its place.
  * usage: curve NUM DEN [CURVE-LENGTH [LOAD-LENGTH]] < CARD */
-#include <inttypes.h>
 #include <stdio.h>
-#include <stdlib.h>
 
 #include "common.h"
 #include "jusqani.h"
 
 #define MAX_CURVE JUSQANI_CURVE_LENGTH(8)
-#define STEPS_PER_OHM 1024.0f
 
 /* What the flag holds before a call; an accepted one stores 0 or 1 there. */
 #define UNTOUCHED UINT32_MAX
-
-/* Says what was refused and where. */
-static void show_refusal(uint64_t answer)
-{
-    uint32_t number = JUSQANI_NUMBER(answer);
-    uint32_t place = JUSQANI_PLACE(answer);
-    printf("refused %" PRIu32 ": %s", number, meaning(number));
-    switch (number) {
-    case 2:
-    case 3: printf(", in rectangle %" PRIu32 "\n", place); break;
-    case 10: printf(", it has %" PRIu32 " bytes\n", place); break;
-    case 11: printf(", at offset %" PRIu32 "\n", place); break;
-    case 12: printf(", the length %" PRIu32 " is needed\n", place); break;
-    default: printf("\n"); break;
-    }
-}
 
 /* Whether the load in ohms is the load in steps, with nothing lost. */
 static int same_load(const int32_t *load, const float *ohms)
 {
     for (int k = 0; k < JUSQANI_RECT_LENGTH; k++)
-        if (ohms[k] * STEPS_PER_OHM != (float)load[k])
+        if (ohms[k] * STEPS_PER_OHM != load[k])
             return 0;
     return 1;
 }
@@ -44,15 +25,6 @@ static const char *flag_word(uint32_t exact)
 {
     static const char *const words[] = {"rounded", "exact"};
     return exact <= 1 ? words[exact] : NULL;
-}
-
-/* Ends the program where the library broke a promise. */
-static void require(int holds, const char *promise)
-{
-    if (!holds) {
-        printf("broken: %s\n", promise);
-        exit(PROMISE_BROKEN);
-    }
 }
 
 int main(int argc, char **argv)
@@ -84,6 +56,7 @@ int main(int argc, char **argv)
     }
     require(same_load(load, ohms), "the load in ohms is the load in steps");
     require(flag_word(exact) != NULL, "the flag of an accepted call is 0 or 1");
-    printf("R %.15g to %.15g ohm, X %.15g to %.15g ohm, %s\n", ohms[0], ohms[1], ohms[2], ohms[3], flag_word(exact));
+    show_load((double[]){ohms[0], ohms[1], ohms[2], ohms[3]});
+    printf(", %s\n", flag_word(exact));
     return 0;
 }

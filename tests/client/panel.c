@@ -10,7 +10,6 @@
 #define MAX_BUFFER 32
 #define ANSWER 16
 #define FILL 0xa5
-#define STEPS_PER_OHM 1024.0
 
 /* One side of the load in ohms, from its four bytes. */
 static double ohms(const uint8_t *bytes)
@@ -51,6 +50,7 @@ int main(int argc, char **argv)
         printf("refused %" PRIu32 ": %s\n", number, meaning(number));
         return REFUSED;
     }
-    printf("R %.15g to %.15g ohm, X %.15g to %.15g ohm\n", ohms(out), ohms(out + 4), ohms(out + 8), ohms(out + 12));
+    show_load((double[]){ohms(out), ohms(out + 4), ohms(out + 8), ohms(out + 12)});
+    printf("\n");
     return 0;
 }

@@ -1,7 +1,8 @@
 /* Measures the stack of each call: the call runs on a stack of its own, filled with a pattern before, and what it
- * touched is what no longer holds the pattern. Every call is made on every card with each pattern, the search so that
- * it reaches its greatest depth. Shows the most bytes that each call took, and fails if the panel call took more than
- * its bound.
+ * touched is what no longer holds the pattern. The pattern is another at every place of 256, since a call may copy what
+ * it has not written, as the gaps of a record, from one place of its frame to another. Every call is made on every card with each pattern, the search so that
+ * it reaches its greatest depth, and the bridge's call, which needs no card, on measurements of every form. Shows the
+ * most bytes that each call took, and fails if the panel call took more than its bound.
  *
  * A number counts from the caller's frame down: the arguments that are passed on the stack with their alignment, the
  * return address, the frames of the library, and those of memcpy and memset. The caller's own frame is not counted.
@@ -10,7 +11,6 @@
 #include <inttypes.h>
 #include <stdio.h>
 #include <stdlib.h>
-#include <string.h>
 #include <ucontext.h>
 
 #include "common.h"
@@ -25,6 +25,7 @@
 #define MAX_CURVE JUSQANI_CURVE_LENGTH(8)
 #define MAX_CARD_LENGTH JUSQANI_CARD_LENGTH(8)
 #define LOAD_BYTES 16
+#define MAX_MEASURED 3
 
 /* What the calls are given and give. It is static, so that a call alone uses the measured stack. */
 static uint8_t card[MAX_CARD];
@@ -34,6 +35,9 @@ static int32_t curve[MAX_CURVE], limits[JUSQANI_RECT_LENGTH];
 static int32_t first[MAX_CURVE], second[MAX_CURVE];
 static float ohms[JUSQANI_RECT_LENGTH];
 static uint32_t exact;
+static const float *measured;
+static size_t measured_length;
+static uint32_t found;
 static uint32_t verdict[JUSQANI_VERDICT_LENGTH];
 static uint8_t bytes[MAX_CARD_LENGTH];
 static uint64_t answer;
@@ -81,6 +85,12 @@ static void call_search(void)
                             MAX_BUDGET, verdict, JUSQANI_VERDICT_LENGTH);
 }
 
+static void call_enclose(void)
+{
+    COUNT_FROM_HERE;
+    answer = jusqani_enclose(measured, measured_length, first, MAX_CURVE, &found);
+}
+
 static void call_read_card(void)
 {
     COUNT_FROM_HERE;
@@ -100,7 +110,8 @@ static const struct {
     {"panel", call_panel},         {"evaluate", call_evaluate},
     {"subdivide", call_subdivide}, {"elevate", call_elevate},
     {"bounds", call_bounds},       {"search", call_search},
-    {"read_card", call_read_card}, {"write_card", call_write_card},
+    {"enclose", call_enclose},     {"read_card", call_read_card},
+    {"write_card", call_write_card},
 };
 #define CALLS (sizeof calls / sizeof calls[0])
 
@@ -110,12 +121,19 @@ static void fail(const char *what)
     exit(PROMISE_BROKEN);
 }
 
+/* The byte of a pattern at a place of the stack. */
+static uint8_t filling(int pattern, size_t place)
+{
+    return (uint8_t)(pattern + 151 * place);
+}
+
 /* The bytes from the caller's frame down to the last byte of a stack filled with a pattern that a call changed. */
 static size_t touched(void (*call)(void), int pattern)
 {
     static _Alignas(16) uint8_t stack[STACK_SIZE];
     static ucontext_t here, there;
-    memset(stack, pattern, sizeof stack);
+    for (size_t k = 0; k < sizeof stack; k++)
+        stack[k] = filling(pattern, k);
     if (getcontext(&there) != 0)
         fail("no context");
     there.uc_stack.ss_sp = stack;
@@ -125,7 +143,7 @@ static size_t touched(void (*call)(void), int pattern)
     if (swapcontext(&here, &there) != 0)
         fail("no context");
     size_t kept = 0;
-    while (kept < sizeof stack && stack[kept] == pattern)
+    while (kept < sizeof stack && stack[kept] == filling(pattern, kept))
         kept++;
     if (kept == 0)
         fail("the stack ran out");
@@ -147,13 +165,27 @@ static void measure_calls(int pattern)
     }
 }
 
-/* Makes every call at every parameter with every pattern. */
+/* Makes every call at every parameter, and with it on a measurement, with every pattern. */
 static void measure_parameters(void)
 {
-    static const uint32_t parameters[][2] = {{0, 1}, {1, 2}, {1, 3}, {65535, 65536}, {7, 7}, {1, 0}, {8, 7}};
-    for (size_t p = 0; p < sizeof parameters / sizeof parameters[0]; p++) {
-        num = parameters[p][0];
-        den = parameters[p][1];
+    static const struct {
+        uint32_t num, den;
+        size_t length;
+        float ohms[MAX_MEASURED];
+    } given[] = {
+        {0, 1, 0, {0}},
+        {1, 2, 1, {50}},
+        {1, 3, 2, {50, -0.1f}},
+        {65535, 65536, 3, {50.0003f, -0.1f, 0.25f}},
+        {7, 7, 3, {-16384, 1e-45f, 0}},
+        {1, 0, 3, {0, 0, -1}},
+        {8, 7, 3, {16384, 0, 1}},
+    };
+    for (size_t p = 0; p < sizeof given / sizeof given[0]; p++) {
+        num = given[p].num;
+        den = given[p].den;
+        measured = given[p].ohms;
+        measured_length = given[p].length;
         measure_calls(0x00);
         measure_calls(0xa5);
         measure_calls(0xff);

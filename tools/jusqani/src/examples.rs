@@ -1,4 +1,4 @@
-//! Document 01's examples on the typed calls.
+//! Document 01's examples and document 02's on the typed calls.
 
 use crate::*;
 
@@ -76,6 +76,56 @@ fn says_whether_nothing_was_rounded() {
     assert!(!exact(line, 1, 2));
     assert!(!values(&[0, 1]).elevate().unwrap().exact);
     assert!(values(&[0, 2]).elevate().unwrap().exact);
+}
+
+/// The rectangle of a plain load, or of one with a spread.
+fn enclosed(ohms: &[f32]) -> Result<[i32; RECT_LENGTH], Refusal> {
+    let measurement = match *ohms {
+        [resistance, reactance] => Measurement::Load {
+            resistance,
+            reactance,
+        },
+        [resistance, reactance, spread] => Measurement::LoadWithSpread {
+            resistance,
+            reactance,
+            spread,
+        },
+        _ => unreachable!("{ohms:?} is no load"),
+    };
+    Ok(measurement.enclose()?.expect("a rectangle").into())
+}
+
+/// Document 02, point 2.
+#[test]
+fn encloses_a_measured_load() {
+    assert_eq!(Measurement::NoCarrier.enclose(), Ok(None));
+    assert_eq!(enclosed(&[50.0, 0.0]), Ok([51_200, 51_200, 0, 0]));
+    assert_eq!(enclosed(&[-0.0009765625, 0.0]), Ok([-1, -1, 0, 0]));
+    assert_eq!(enclosed(&[0.0001, -0.0001]), Ok([0, 1, -1, 0]));
+    assert_eq!(enclosed(&[-0.0, -0.0]), Ok([0; 4]));
+    assert_eq!(enclosed(&[-0.0, 1.0, -0.0]), Ok([0, 0, 1_024, 1_024]));
+    let measured = enclosed(&[50.0003, -0.1, 0.25]);
+    assert_eq!(measured, Ok([50_944, 51_457, -359, 154]));
+    // Each is half a step, and each is rounded by itself.
+    let half = 0.00048828125;
+    assert_eq!(enclosed(&[half, -half, half]), Ok([-1, 2, -2, 1]));
+}
+
+#[test]
+fn refuses_a_measured_load_along_the_limits() {
+    const LIMIT: f32 = 16_384.0;
+    const STEP: f32 = 1.0 / 1_024.0;
+    let ends = [MAX_SIDE, MAX_SIDE, -MAX_SIDE, -MAX_SIDE];
+    assert_eq!(enclosed(&[LIMIT, -LIMIT]), Ok(ends));
+    let whole = [-MAX_SIDE, MAX_SIDE, -MAX_SIDE, MAX_SIDE];
+    assert_eq!(enclosed(&[0.0, 0.0, LIMIT]), Ok(whole));
+    let beyond = LIMIT.next_up();
+    assert_eq!(enclosed(&[beyond, f32::NAN]), refused(13, 0));
+    assert_eq!(enclosed(&[-LIMIT, -beyond, -1.0]), refused(13, 1));
+    assert_eq!(enclosed(&[LIMIT, 0.0, f32::INFINITY]), refused(13, 2));
+    assert_eq!(enclosed(&[LIMIT, 0.0, -1.0e-45]), refused(13, 2));
+    assert_eq!(enclosed(&[LIMIT, LIMIT, STEP]), refused(14, 0));
+    assert_eq!(enclosed(&[LIMIT - STEP, -LIMIT, STEP]), refused(14, 1));
 }
 
 #[test]

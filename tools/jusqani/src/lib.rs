@@ -2,10 +2,12 @@
 //! without unsafe code for the programs that use them. A side is a whole number of steps of 1/1,024 ohm.
 #![deny(unsafe_code)]
 
+mod bridge;
 mod curve;
 pub mod raw;
 mod refusal;
 
+pub use bridge::Measurement;
 pub use curve::{
     card_length, curve_length, Curve, Elevation, Evaluation, Interval, Rect, Subdivision, Verdict,
     CARD_LENGTH, CURVE_LENGTH, MAX_DEGREE, MAX_DEN, MAX_SIDE, PLACES, RECT_LENGTH, VERDICT_LENGTH,

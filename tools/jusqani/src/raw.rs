@@ -1,9 +1,9 @@
 //! The exported calls on slices, one thin function for each, exactly as `include/jusqani.h` has them.
 //!
 //! These are the only unsafe blocks of the tools. Each hands over slices as pointers with their own
-//! lengths, and the exact flag as a pointer to one number. Such a pointer is never null, `&` and `&mut`
-//! rule out that a buffer that is written overlaps another, and a call keeps no pointer: that is all
-//! that the header asks of its caller.
+//! lengths, and the exact flag or what was found as a pointer to one number. Such a pointer is never null,
+//! `&` and `&mut` rule out that a buffer that is written overlaps another, and a call keeps no pointer:
+//! that is all that the header asks of its caller.
 #![allow(unsafe_code)]
 
 mod foreign {
@@ -57,6 +57,13 @@ mod foreign {
             budget: u32,
             verdict: *mut u32,
             verdict_length: usize,
+        ) -> u64;
+        pub fn jusqani_enclose(
+            ohms: *const f32,
+            ohms_length: usize,
+            rect: *mut i32,
+            rect_length: usize,
+            found: *mut u32,
         ) -> u64;
         pub fn jusqani_read_card(
             card: *const u8,
@@ -191,6 +198,21 @@ pub fn search(
             budget,
             verdict.as_mut_ptr(),
             verdict.len(),
+        )
+    }
+}
+
+/// Encloses what the bridge measured in a rectangle, or finds that there is no carrier.
+#[inline]
+pub fn enclose(ohms: &[f32], rect: &mut [i32], found: &mut u32) -> u64 {
+    // Sound: two slices with their lengths, the second and the number lent alone (see the module).
+    unsafe {
+        foreign::jusqani_enclose(
+            ohms.as_ptr(),
+            ohms.len(),
+            rect.as_mut_ptr(),
+            rect.len(),
+            found,
         )
     }
 }

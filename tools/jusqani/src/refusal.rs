@@ -26,6 +26,11 @@ impl Refusal {
             10 => "the card has fewer than 11 bytes, or not the length for its degree",
             11 => "a column is malformed, or a line does not end with byte 10",
             12 => "a buffer for the result is too short",
+            13 => {
+                "a measured number is not finite, a load is beyond 16,384 ohms either way, \
+                 or a spread is not 0 to 16,384 ohms"
+            }
+            14 => "with the spread a side is out of range (16,384 ohms either way)",
             _ => "not a refusal of this library",
         }
     }
@@ -52,6 +57,9 @@ impl fmt::Display for Refusal {
             (10, place) => write!(f, ", it has {place} bytes"),
             (11, place) => write!(f, ", at offset {place}"),
             (12, place) => write!(f, ", the length {place} is needed"),
+            (13 | 14, 0) => write!(f, ", the resistance"),
+            (13 | 14, 1) => write!(f, ", the reactance"),
+            (13, 2) => write!(f, ", the spread"),
             _ => Ok(()),
         }
     }
@@ -85,6 +93,30 @@ mod tests {
         assert_eq!(
             shown(12, 16),
             "refused 12: a buffer for the result is too short, the length 16 is needed"
+        );
+    }
+
+    #[test]
+    fn says_which_measured_number() {
+        let meaning = "a measured number is not finite, a load is beyond 16,384 ohms either way, \
+                       or a spread is not 0 to 16,384 ohms";
+        assert_eq!(
+            shown(13, 0),
+            format!("refused 13: {meaning}, the resistance")
+        );
+        assert_eq!(
+            shown(13, 1),
+            format!("refused 13: {meaning}, the reactance")
+        );
+        assert_eq!(shown(13, 2), format!("refused 13: {meaning}, the spread"));
+        let meaning = "with the spread a side is out of range (16,384 ohms either way)";
+        assert_eq!(
+            shown(14, 0),
+            format!("refused 14: {meaning}, the resistance")
+        );
+        assert_eq!(
+            shown(14, 1),
+            format!("refused 14: {meaning}, the reactance")
         );
     }
 

@@ -3,14 +3,14 @@
 use crate::coverage::{Line, Ohm, Row};
 use crate::door::{curve_length, FOUR, MODEL};
 use crate::given::Given;
-use crate::lent::{Compared, Lent, LentFlag, BEHIND};
+use crate::lent::{Compared, Lent, LentNumber, BEHIND};
 use crate::model::{Flagged, Parameter, MAX_DEGREE, MAX_SIDE};
 use crate::search::Search;
 use crate::trial::{Counted, Outcome, Trial, SPARE};
 use std::cmp::Ordering;
 
 /// The room for a buffer of a rectangle or a verdict, and for one of a curve.
-const RECT_ROOM: usize = FOUR + SPARE + BEHIND;
+pub const RECT_ROOM: usize = FOUR + SPARE + BEHIND;
 pub const CURVE_ROOM: usize = curve_length(MAX_DEGREE) + SPARE + BEHIND;
 
 const EVALUATE: Counted = Counted {
@@ -38,6 +38,9 @@ const SEARCH: Counted = Counted {
     numbers: Line::SearchNumbers,
     lengths: &[Line::SearchVerdict],
 };
+
+/// The exact flag of a call that rounded nothing.
+const EXACT: u32 = 1;
 
 /// Where the flags of accepted calls are counted by degree: of rounded results, of exact ones where no map
 /// had anything to round, and of the other exact ones.
@@ -67,7 +70,7 @@ impl Trial<'_> {
     ) -> Result<Outcome<Flagged<[i32; 4]>>, String> {
         let mut load: Lent<i32, RECT_ROOM> = self.lend("load", FOUR);
         let mut ohms: Lent<f32, RECT_ROOM> = self.lend("ohms", FOUR);
-        let mut exact = LentFlag::new(self.rng);
+        let mut exact = LentNumber::new("exact", self.rng);
         let (degree, sides, Parameter { num, den }) = (given.degree, given.sides(), t);
         let (to, display, flag) = (load.expected(), ohms.expected(), exact.expected());
         let expected = (MODEL.evaluate)(degree, sides, num, den, to, display, flag);
@@ -81,7 +84,7 @@ impl Trial<'_> {
             self.count_given(given);
             self.count_parameter(Line::EvaluateAt, t);
             self.count_ohms(&result);
-            let exact = exact.says_exact();
+            let exact = exact.left() == EXACT;
             self.count_flag(EVALUATE_FLAGS, given, t.is_end(), exact);
             Flagged { result, exact }
         }))
@@ -109,7 +112,7 @@ impl Trial<'_> {
         let needed = given.curve_length();
         let mut left: Lent<i32, CURVE_ROOM> = self.lend("left", needed);
         let mut right: Lent<i32, CURVE_ROOM> = self.lend("right", needed);
-        let mut exact = LentFlag::new(self.rng);
+        let mut exact = LentNumber::new("exact", self.rng);
         let (degree, sides, Parameter { num, den }) = (given.degree, given.sides(), t);
         let (up_to, from, flag) = (left.expected(), right.expected(), exact.expected());
         let expected = (MODEL.subdivide)(degree, sides, num, den, up_to, from, flag);
@@ -121,7 +124,7 @@ impl Trial<'_> {
         Ok(outcome.map(|()| {
             self.count_given(given);
             self.count_parameter(Line::SubdivideAt, t);
-            let exact = exact.says_exact();
+            let exact = exact.left() == EXACT;
             self.count_flag(SUBDIVIDE_FLAGS, given, t.is_end(), exact);
             let result = [&left, &right].map(|piece| Given::handed_on(piece.left()));
             Flagged { result, exact }
@@ -133,7 +136,7 @@ impl Trial<'_> {
         // At degree 8 there is no result; a buffer for a curve of that degree is lent.
         let needed = curve_length(MAX_DEGREE.min(given.near_degree() + 1));
         let mut raised: Lent<i32, CURVE_ROOM> = self.lend("raised", needed);
-        let mut exact = LentFlag::new(self.rng);
+        let mut exact = LentNumber::new("exact", self.rng);
         let (degree, sides) = (given.degree, given.sides());
         let expected = (MODEL.elevate)(degree, sides, raised.expected(), exact.expected());
         let came = (self.door.elevate)(degree, sides, raised.came(), exact.came());
@@ -142,7 +145,7 @@ impl Trial<'_> {
         let outcome = self.finish(&ELEVATE, [expected, came], needed, &buffers, input)?;
         Ok(outcome.map(|()| {
             self.count_given(given);
-            let exact = exact.says_exact();
+            let exact = exact.left() == EXACT;
             self.count_flag(ELEVATE_FLAGS, given, false, exact);
             let result = Given::handed_on(raised.left());
             Flagged { result, exact }

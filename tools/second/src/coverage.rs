@@ -13,6 +13,14 @@ pub enum Row {
     Elevate,
     Bounds,
     Search,
+    NoCarrier,
+    RandomLoads,
+    RandomSpreads,
+    DrawnLoads,
+    DrawnSpreads,
+    ZeroSpread,
+    MinusZero,
+    EnclosedPoint,
     ReadCard,
     WriteCard,
     WrittenAgain,
@@ -37,12 +45,20 @@ pub enum Row {
 }
 
 /// Each row's name, and how many comparisons must agree.
-pub const ROWS: [(Row, &str, u64); 26] = [
+pub const ROWS: [(Row, &str, u64); 34] = [
     (Evaluate, "evaluate", 2_000_000),
     (Subdivide, "subdivide", 1_000_000),
     (Elevate, "elevate", 500_000),
     (Bounds, "bounds", 200_000),
     (Search, "search", 500_000),
+    (NoCarrier, "enclose, no carrier", 2_000_000),
+    (RandomLoads, "enclose, loads, any bits", 2_000_000),
+    (RandomSpreads, "enclose, with spread, any bits", 2_000_000),
+    (DrawnLoads, "enclose, loads, drawn", 2_000_000),
+    (DrawnSpreads, "enclose, with spread, drawn", 2_000_000),
+    (ZeroSpread, "enclose, a spread of zero", 200_000),
+    (MinusZero, "enclose, minus zero as zero", 20_000),
+    (EnclosedPoint, "enclosed, as a control point", 200_000),
     (ReadCard, "read_card", 300_000),
     (WriteCard, "write_card", 200_000),
     (WrittenAgain, "accepted cards written again", 100_000),
@@ -106,6 +122,30 @@ pub enum Line {
     SearchDepth,
     Verdicts,
     Pieces,
+    MeasuredLent,
+    NoCarrierNumbers,
+    NoCarrierRect,
+    LoadNumbers,
+    LoadRect,
+    SpreadNumbers,
+    SpreadRect,
+    MeasuredPlaces,
+    WidenedPlaces,
+    ResistancePlus,
+    ResistanceMinus,
+    ReactancePlus,
+    ReactanceMinus,
+    SpreadPlus,
+    SpreadMinus,
+    ResistanceExponents,
+    ReactanceExponents,
+    SpreadExponents,
+    ResistanceEdges,
+    ReactanceEdges,
+    SpreadEdges,
+    WidenedSides,
+    ZeroSpreads,
+    ZeroPlaces,
     ReadNumbers,
     ReadCurve,
     ReadKinds,
@@ -151,6 +191,22 @@ pub enum Ohm {
     Above,
     Least,
     Greatest,
+}
+
+/// What a measured number is, without its sign.
+#[derive(Clone, Copy, PartialEq, Debug)]
+pub enum Number {
+    Zero,
+    Subnormal,
+    WholeSteps,
+    BetweenSteps,
+    JustWithin,
+    Limit,
+    JustBeyond,
+    Beyond,
+    Infinite,
+    QuietNan,
+    SignallingNan,
 }
 
 /// What happened to the curve in a list before an evaluation.
@@ -209,10 +265,23 @@ const FITS: Values = Words(&["one short", "exact", "one more"]);
 const EQUAL_FLAGS: Values = Words(&["rounded", "exact between 0 and 1", "exact at 0 or 1"]);
 /// In the order of false and true.
 const FLAGS: Values = Words(&["rounded", "exact"]);
-/// In the order of the enums Before, At, Ohm, Kind, Malformed and CardAnswer.
+/// In the order of the enums Before, At, Ohm, Number, Kind, Malformed and CardAnswer.
 const BEFORE: Values = Words(&["no change", "exact changes", "a rounded change"]);
 const AT: Values = Words(&["0", "1", "between", "den 1", "den 65,536", "den between"]);
 const OHMS: Values = Words(&["0", "below 0", "above 0", "-16,384", "16,384"]);
+const NUMBERS: Values = Words(&[
+    "0",
+    "subnormal",
+    "whole steps",
+    "between steps",
+    "next within 16,384",
+    "16,384",
+    "next beyond 16,384",
+    "beyond",
+    "infinite",
+    "quiet NaN",
+    "signalling NaN",
+]);
 const KINDS: Values = Words(&[
     "sound",
     "cut short",
@@ -236,6 +305,22 @@ const LENGTHS: Values = Words(&["0", "1 to 10", "11 to 380", "above 380"]);
 const REFUSED: Values = Words(&[
     "0", "9", "10", "257", "65538", "2^31", "2^31 + 3", "2^32 - 1",
 ]);
+/// The sides in their order, each a step within its limit, at it and a step beyond.
+const WIDENED: Values = Words(&[
+    "R low within",
+    "at",
+    "beyond",
+    "R high within",
+    "at",
+    "beyond",
+    "X low within",
+    "at",
+    "beyond",
+    "X high within",
+    "at",
+    "beyond",
+]);
+const ZERO_SPREADS: Values = Words(&["0 refused", "-0 refused", "0 enclosed", "-0 enclosed"]);
 const ENDINGS: Values = Words(&["after the text", "at a bad card or line"]);
 const PLACED: Values = Words(&["shown", "too long to show"]);
 const REPLAY_FLAGS: Values = Words(&[
@@ -249,11 +334,13 @@ const REPLAY_FLAGS: Values = Words(&[
 const ROUNDED: &str = "rounded by degree";
 const TRIVIAL: &str = "exact by degree, at 0 or 1 or of one rectangle";
 const EXACT: &str = "exact by degree, others";
+/// The refusals that a call has before it tries its buffers.
+const OTHERS: Values = These(&[1, 2, 3, 4, 5, 6, 7, 8, 9, 10, 11, 13, 14]);
 
 /// The lines by what they are about: what is counted, the values and how often each must come.
 type Group = (&'static str, &'static [(Line, &'static str, Values, u64)]);
 
-pub const GROUPS: [Group; 12] = [
+pub const GROUPS: [Group; 13] = [
     (
         "curves given",
         &[
@@ -269,7 +356,7 @@ pub const GROUPS: [Group; 12] = [
         &[
             (OutOfRange, "places of 2", Span(0, 8), 1_000),
             (Crossed, "places of 3", Span(0, 8), 1_000),
-            (ShortToo, "with a short buffer", Span(1, 11), 500),
+            (ShortToo, "with a short buffer", OTHERS, 500),
             (Fits, "shortest buffer, where it counts", FITS, 100_000),
         ],
     ),
@@ -349,6 +436,67 @@ pub const GROUPS: [Group; 12] = [
             (SearchDepth, "accepted by depth limit", Span(0, 12), 500),
             (Verdicts, "verdicts", Span(1, 4), 1_000),
             (Pieces, "pieces looked at", PIECES, 100),
+        ],
+    ),
+    (
+        "enclose",
+        &[
+            (MeasuredLent, "numbers lent", Span(0, 7), 100_000),
+            (
+                NoCarrierNumbers,
+                "no carrier, answers",
+                These(&[0]),
+                2_000_000,
+            ),
+            (NoCarrierRect, "no carrier, rect lent", Span(0, 8), 10_000),
+            (LoadNumbers, "loads, answers", These(&[0, 12, 13]), 100_000),
+            (LoadRect, "loads, rect lent", Span(0, 8), 10_000),
+            (
+                SpreadNumbers,
+                "with spread, answers",
+                These(&[0, 12, 13, 14]),
+                50_000,
+            ),
+            (SpreadRect, "with spread, rect lent", Span(0, 8), 10_000),
+            (MeasuredPlaces, "places of 13", Span(0, 2), 100_000),
+            (WidenedPlaces, "places of 14", Span(0, 1), 50_000),
+            // A number counts where none before it is refused.
+            (ResistancePlus, "resistances with a plus", NUMBERS, 500),
+            (ResistanceMinus, "resistances with a minus", NUMBERS, 500),
+            (ReactancePlus, "reactances with a plus", NUMBERS, 500),
+            (ReactanceMinus, "reactances with a minus", NUMBERS, 500),
+            (SpreadPlus, "spreads with a plus", NUMBERS, 500),
+            (SpreadMinus, "spreads with a minus", NUMBERS, 500),
+            (
+                ResistanceExponents,
+                "exponents of resistances",
+                Span(0, 255),
+                1_000,
+            ),
+            (
+                ReactanceExponents,
+                "exponents of reactances",
+                Span(0, 255),
+                1_000,
+            ),
+            (SpreadExponents, "exponents of spreads", Span(0, 255), 1_000),
+            // First, middle and last fraction at every exponent without the sign, then with it.
+            (
+                ResistanceEdges,
+                "ends and middles, resistances",
+                Span(0, 1_535),
+                8,
+            ),
+            (
+                ReactanceEdges,
+                "ends and middles, reactances",
+                Span(0, 1_535),
+                8,
+            ),
+            (SpreadEdges, "ends and middles, spreads", Span(0, 1_535), 8),
+            (WidenedSides, "sides with the spread", WIDENED, 1_000),
+            (ZeroSpreads, "spreads of zero", ZERO_SPREADS, 10_000),
+            (ZeroPlaces, "places of a minus zero", Span(0, 2), 5_000),
         ],
     ),
     (

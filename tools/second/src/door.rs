@@ -1,6 +1,7 @@
-//! The library's calls as include/jusqani.h has them, on slices: which curve and box a call is given,
-//! what it answers, and what it leaves in the buffers lent to it.
+//! The library's calls as include/jusqani.h has them, on slices: which curve, box and measurement a call is
+//! given, what it answers, and what it leaves in the buffers lent to it.
 
+use crate::bridge::Measurement;
 use crate::card::{card_length, card_of, curve_of};
 use crate::model::{ohms, refuse_if, Curve, Parameter, Rectangle, Refusal, MAX_DEGREE};
 use crate::search::Search;
@@ -14,7 +15,10 @@ pub type Elevate = fn(u32, &[i32], &mut [i32], &mut u32) -> u64;
 /// A search: a curve, a box, depth and budget, and the buffer for the verdict.
 pub type OnBox = fn(u32, &[i32], &[i32], u32, u32, &mut [u32]) -> u64;
 
-/// The eight calls, of the proved library or of the model.
+/// What the bridge measured, the buffer for its rectangle, and the number for what was found.
+pub type OnMeasured = fn(&[f32], &mut [i32], &mut u32) -> u64;
+
+/// The nine calls, of the proved library or of the model.
 #[derive(Clone, Copy)]
 pub struct Door {
     pub evaluate: AtParameter<f32>,
@@ -22,6 +26,7 @@ pub struct Door {
     pub elevate: Elevate,
     pub bounds: OnCurve<i32>,
     pub search: OnBox,
+    pub enclose: OnMeasured,
     pub read_card: fn(&[u8], &mut [i32]) -> u64,
     pub write_card: OnCurve<u8>,
     pub panel: fn(&[u8], u32, u32, &mut [u8]) -> u32,
@@ -34,6 +39,7 @@ pub const MODEL: Door = Door {
     elevate,
     bounds,
     search,
+    enclose,
     read_card,
     write_card,
     panel,
@@ -42,6 +48,10 @@ pub const MODEL: Door = Door {
 /// The lengths of a result: a rectangle or a verdict, and the panel call's four sides of four bytes.
 pub const FOUR: usize = 4;
 pub const PANEL_BYTES: usize = 16;
+
+/// What the bridge's call found.
+pub const NO_CARRIER: u32 = 1;
+pub const ENCLOSED: u32 = 2;
 
 /// The numbers of a curve that a call gives: its degree, then its sides.
 pub const fn curve_length(degree: usize) -> usize {
@@ -63,6 +73,18 @@ pub fn given_curve(degree: u32, sides: &[i32]) -> Curve {
 /// The box that a search is given: sides that the slice does not have count as zero.
 pub fn given_limits(limits: &[i32]) -> Rectangle {
     std::array::from_fn(|side| limits.get(side).copied().unwrap_or(0).into())
+}
+
+/// What the bridge delivered, by the length of the slice: a reactance that it does not have counts as not a
+/// number, and numbers past the third are not read.
+pub fn given_measurement(ohms: &[f32]) -> Measurement {
+    const NOT_A_NUMBER: u32 = 0x7fc0_0000;
+    match *ohms {
+        [] => Measurement::NoCarrier,
+        [r] => Measurement::Load([r.to_bits(), NOT_A_NUMBER]),
+        [r, x] => Measurement::Load([r, x].map(f32::to_bits)),
+        [r, x, spread, ..] => Measurement::LoadWithSpread([r, x, spread].map(f32::to_bits)),
+    }
 }
 
 /// A refusal's number in the low 32 bits and its place in the high ones, 2^32 - 1 for a larger place.
@@ -175,6 +197,20 @@ fn search(
     answer(result())
 }
 
+fn enclose(ohms: &[f32], rect: &mut [i32], found: &mut u32) -> u64 {
+    let mut result = || {
+        let Some(sides) = given_measurement(ohms).enclose()? else {
+            *found = NO_CARRIER;
+            return Ok(());
+        };
+        need(FOUR, &[rect.len()])?;
+        store(&sides, rect);
+        *found = ENCLOSED;
+        Ok(())
+    };
+    answer(result())
+}
+
 fn read_card(card: &[u8], curve: &mut [i32]) -> u64 {
     let mut result = || {
         let read = curve_of(card)?;
@@ -265,6 +301,30 @@ mod tests {
         assert_eq!(panel(CARD, 3, 2, &mut out), 5);
         assert_eq!(panel(&CARD[..92], 3, 2, &mut out), 10);
         assert_eq!(out, [7; 15]);
+    }
+
+    #[test]
+    fn encloses_by_the_length_of_the_slice() {
+        let place = |place: u64, number: u64| (place << 32) | number;
+        let ohms = [1.0, -2.0, 0.5, f32::NAN];
+        let mut lent = ([7; 5], 7);
+        let mut call = |numbers: usize, room: usize| {
+            let answer = enclose(&ohms[..numbers], &mut lent.0[..room], &mut lent.1);
+            (answer, std::mem::replace(&mut lent, ([7; 5], 7)))
+        };
+        let kept = ([7; 5], 7);
+        assert_eq!(call(0, 0), (0, ([7; 5], NO_CARRIER)));
+        assert_eq!(call(1, 5), (place(1, 13), kept));
+        let load = [1_024, 1_024, -2_048, -2_048, 7];
+        assert_eq!(call(2, 4), (0, (load, ENCLOSED)));
+        assert_eq!(call(2, 3), (place(4, 12), kept));
+        let spread = [512, 1_536, -2_560, -1_536, 7];
+        assert_eq!(call(3, 5), (0, (spread, ENCLOSED)));
+        assert_eq!(call(4, 5), (0, (spread, ENCLOSED)));
+        // 13 and 14 are tried before the buffer, and the resistance before a missing reactance.
+        assert_eq!(enclose(&ohms[3..], &mut [], &mut 7), place(0, 13));
+        let too_far = [16_384.0, 0.0, 1.0];
+        assert_eq!(enclose(&too_far, &mut [], &mut 7), place(0, 14));
     }
 
     #[test]

@@ -1,5 +1,5 @@
-//! Buffers lent to a call, and the number for its exact flag: filled with drawn numbers and watched as a
-//! whole, with what lies behind them.
+//! Buffers lent to a call, and single numbers lent to it, as for its exact flag: filled with drawn numbers
+//! and watched as a whole, with what lies behind them.
 
 use crate::rng::Rng;
 use std::fmt::Debug;
@@ -99,12 +99,12 @@ impl<T: Bits, const N: usize> Lent<T, N> {
     }
 }
 
-/// The number lent for the exact flag.
-pub struct LentFlag(Lent<u32, { 1 + BEHIND }>);
+/// A single number lent to a call, for its exact flag or for what it found.
+pub struct LentNumber(Lent<u32, { 1 + BEHIND }>);
 
-impl LentFlag {
-    pub fn new(rng: &mut Rng) -> LentFlag {
-        LentFlag(Lent::new("exact", 1, rng))
+impl LentNumber {
+    pub fn new(name: &'static str, rng: &mut Rng) -> LentNumber {
+        LentNumber(Lent::new(name, 1, rng))
     }
 
     /// The number for the model.
@@ -117,9 +117,9 @@ impl LentFlag {
         &mut self.0.came[0]
     }
 
-    /// Whether the call that is compared says that nothing was rounded.
-    pub fn says_exact(&self) -> bool {
-        self.0.came[0] == 1
+    /// What the call that is compared left there.
+    pub fn left(&self) -> u32 {
+        self.0.came[0]
     }
 }
 
@@ -133,7 +133,7 @@ pub trait Compared {
     fn account(&self) -> String;
 }
 
-impl Compared for LentFlag {
+impl Compared for LentNumber {
     fn length(&self) -> Option<usize> {
         None
     }
@@ -193,14 +193,14 @@ mod tests {
     }
 
     #[test]
-    fn lends_a_flag_that_is_neither_0_nor_1() {
+    fn lends_a_number_that_no_call_stores() {
         for seed in 0..1_000 {
-            let mut flag = LentFlag::new(&mut Rng::new(seed));
-            assert!(flag.agrees() && *flag.came() > 1);
-            *flag.came() = 1;
-            assert!(flag.says_exact() && !flag.agrees());
-            *flag.expected() = 1;
-            assert!(flag.agrees());
+            let mut number = LentNumber::new("found", &mut Rng::new(seed));
+            assert!(number.agrees() && number.left() > 2);
+            *number.came() = 1;
+            assert!(number.left() == 1 && !number.agrees());
+            *number.expected() = 1;
+            assert!(number.agrees());
         }
     }
 

@@ -1,8 +1,9 @@
-//! The second program: document 01 and document 02's point 1 written again in ordinary Rust, from the
-//! papers and not from the proved code, and what runs it beside the proved library and the programs.
+//! The second program: document 01 and document 02's points 1 and 2 written again in ordinary Rust, from
+//! the papers and not from the proved code, and what runs it beside the proved library and the programs.
 #![forbid(unsafe_code)]
 
 // From the papers.
+pub mod bridge;
 pub mod card;
 pub mod claim;
 pub mod door;
@@ -18,14 +19,17 @@ pub mod damage;
 pub mod draw;
 pub mod given;
 pub mod grid;
+pub mod pattern;
 pub mod rng;
 
 // What is compared.
 pub mod calls;
 pub mod cards;
+pub mod enclosed;
 pub mod flags;
 pub mod lent;
 pub mod lists;
+pub mod measured;
 pub mod panel;
 pub mod programs;
 pub mod trial;
@@ -35,6 +39,8 @@ pub mod coverage;
 pub mod parts;
 pub mod tally;
 
+#[cfg(test)]
+mod bridge_faults;
 #[cfg(test)]
 mod faults;
 #[cfg(test)]

@@ -9,6 +9,7 @@ pub const LIBRARY: Door = Door {
     elevate: raw::elevate,
     bounds: raw::bounds,
     search: raw::search,
+    enclose: raw::enclose,
     read_card: raw::read_card,
     write_card: raw::write_card,
     panel: raw::panel,

@@ -9,11 +9,12 @@ use library::LIBRARY;
 use second::cards::MAX_CARD_LENT;
 use second::model::MAX_DEGREE;
 use second::parts::{in_parts, SEED};
+use second::pattern::{FIELDS, SPECIALS};
 use second::programs::{card, examples, replay, slow};
 use second::rng::Rng;
 use second::tally::Tally;
 use second::trial::Trial;
-use second::{cards, lists, panel};
+use second::{cards, lists, measured, panel};
 use std::path::{Path, PathBuf};
 use std::process::ExitCode;
 use std::time::Instant;
@@ -26,6 +27,8 @@ const CARDS_READ: usize = 400_000;
 /// How often the writer is tried with each length of buffer, at each degree.
 const WRITTEN_EACH: usize = 80;
 const PANEL_CALLS: usize = 1_000_000;
+/// Measurements of each form with any bits, and as many loads that are drawn.
+const MEASURED: usize = 2_000_000;
 const PARTS: usize = 100;
 /// Runs of the programs, each in a process of its own.
 const CARDS_PRINTED: usize = 600;
@@ -75,6 +78,20 @@ fn run_library(tally: &mut Tally) -> Result<(), String> {
     })?;
     in_parts(4, PARTS, tally, |_, rng, tally| {
         (0..PANEL_CALLS / PARTS).try_for_each(|_| panel::compare(&mut trial(rng, tally)))
+    })?;
+    run_bridge(tally)
+}
+
+/// Every comparison of the bridge's call: along the limits, and drawn.
+fn run_bridge(tally: &mut Tally) -> Result<(), String> {
+    in_parts(10, FIELDS, tally, |field, rng, tally| {
+        measured::compare_edges(&mut trial(rng, tally), field)
+    })?;
+    in_parts(11, SPECIALS, tally, |first, rng, tally| {
+        measured::compare_specials(&mut trial(rng, tally), first)
+    })?;
+    in_parts(12, PARTS, tally, |_, rng, tally| {
+        (0..MEASURED / PARTS).try_for_each(|_| measured::compare(&mut trial(rng, tally)))
     })
 }
 

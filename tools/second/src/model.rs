@@ -196,7 +196,7 @@ pub fn ohms(load: &Rectangle) -> [f32; 4] {
 
 /// The bits of the single-precision number side / 1,024, for a side in range: a sign, eight bits of
 /// exponent with 127 added, and the 23 bits after the leading one. A zero has none of them set.
-fn ohm_bits(side: i64) -> u32 {
+pub fn ohm_bits(side: i64) -> u32 {
     let size = side.unsigned_abs() as u32;
     if size == 0 {
         return 0;

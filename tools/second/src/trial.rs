@@ -95,8 +95,9 @@ impl Trial<'_> {
                 for (line, length) in counted.lengths.iter().zip(lengths()) {
                     self.tally.cover(*line, length);
                 }
-                // One short, exact or one more.
-                let fits = (shortest + 1).checked_sub(needed).filter(|fits| *fits < 3);
+                // One short, exact or one more, where room is needed.
+                let fits = (shortest + 1).checked_sub(needed);
+                let fits = fits.filter(|fits| needed > 0 && *fits < 3);
                 fits.into_iter()
                     .for_each(|fits| self.tally.cover(Line::Fits, fits));
             }
@@ -106,6 +107,8 @@ impl Trial<'_> {
         match number {
             2 => self.tally.cover(Line::OutOfRange, place as usize),
             3 => self.tally.cover(Line::Crossed, place as usize),
+            13 => self.tally.cover(Line::MeasuredPlaces, place as usize),
+            14 => self.tally.cover(Line::WidenedPlaces, place as usize),
             _ => {}
         }
     }
