@@ -64,7 +64,7 @@ extern "C" {
 
 /* What jusqani_enclose found. */
 #define JUSQANI_NO_CARRIER 1
-#define JUSQANI_ENCLOSED 2
+#define JUSQANI_RECTANGLE 2
 
 /*
  * Evaluates the curve at num/den. The load's four sides are stored in load, and the same in ohms, with nothing lost,
@@ -114,7 +114,7 @@ uint64_t jusqani_search(uint32_t degree, const int32_t *sides, size_t sides_leng
  * Encloses what the bridge measured in a rectangle of whole steps. The length of ohms tells the form: 0 numbers are no
  * carrier, 2 are a load (resistance, reactance), 3 a load with a spread. Of a single number the reactance is missing,
  * which counts as not a number, and numbers past the third are not read. *found becomes JUSQANI_NO_CARRIER, which is a
- * normal result without a rectangle, or JUSQANI_ENCLOSED, and the rectangle's four sides are then stored in rect: the
+ * normal result without a rectangle, or JUSQANI_RECTANGLE, and the rectangle's four sides are then stored in rect: the
  * smallest one that holds the load, its low sides less and its high sides plus the spread, rounded up to steps. Minus
  * zero counts as zero. Refusals 13, 14 and 12: there is a rectangle, and rect is shorter than 4. A refusal changes
  * neither rect nor *found; no carrier changes no number of rect.

@@ -64,7 +64,7 @@ static int enclose(const float *ohms, size_t ohms_length, size_t rect_length)
         printf("no carrier\n");
         return 0;
     }
-    require(found == JUSQANI_ENCLOSED, "an accepted call finds a rectangle or no carrier");
+    require(found == JUSQANI_RECTANGLE, "an accepted call finds a rectangle or no carrier");
     require(kept(rect, JUSQANI_RECT_LENGTH), "what lies past the rectangle is kept");
     show_rect(rect);
     return 0;

@@ -1,7 +1,7 @@
 //! The second program tried on the bridge's call: every fault in it, one each, must be found out.
 
 use crate::bridge::steps_of;
-use crate::door::{Door, OnMeasured, ENCLOSED, FOUR, MODEL, NO_CARRIER};
+use crate::door::{Door, OnMeasured, RECTANGLE, FOUR, MODEL, NO_CARRIER};
 use crate::measured;
 use crate::pattern::{is_whole, FIELDS, SIGN, SPECIALS};
 use crate::rng::Rng;
@@ -125,7 +125,7 @@ const FAULTS: [(&str, OnMeasured); 24] = [
         for ((side, place), way) in sides.iter().zip(rect).zip([-1, 1, -1, 1]) {
             *place = side + way * spread;
         }
-        *found = ENCLOSED;
+        *found = RECTANGLE;
         0
     }),
     (
@@ -163,7 +163,7 @@ const FAULTS: [(&str, OnMeasured); 24] = [
         |ohms, rect, found| {
             let answer = (MODEL.enclose)(ohms, rect, found);
             if number_and_place(answer).0 == SHORT {
-                *found = ENCLOSED;
+                *found = RECTANGLE;
             }
             answer
         },
@@ -190,7 +190,7 @@ fn changed(
     change: impl FnOnce(&mut [i32]),
 ) -> u64 {
     let answer = (MODEL.enclose)(ohms, rect, found);
-    if answer == 0 && *found == ENCLOSED {
+    if answer == 0 && *found == RECTANGLE {
         change(rect);
     }
     answer

@@ -51,7 +51,7 @@ pub const PANEL_BYTES: usize = 16;
 
 /// What the bridge's call found.
 pub const NO_CARRIER: u32 = 1;
-pub const ENCLOSED: u32 = 2;
+pub const RECTANGLE: u32 = 2;
 
 /// The numbers of a curve that a call gives: its degree, then its sides.
 pub const fn curve_length(degree: usize) -> usize {
@@ -205,7 +205,7 @@ fn enclose(ohms: &[f32], rect: &mut [i32], found: &mut u32) -> u64 {
         };
         need(FOUR, &[rect.len()])?;
         store(&sides, rect);
-        *found = ENCLOSED;
+        *found = RECTANGLE;
         Ok(())
     };
     answer(result())
@@ -316,11 +316,11 @@ mod tests {
         assert_eq!(call(0, 0), (0, ([7; 5], NO_CARRIER)));
         assert_eq!(call(1, 5), (place(1, 13), kept));
         let load = [1_024, 1_024, -2_048, -2_048, 7];
-        assert_eq!(call(2, 4), (0, (load, ENCLOSED)));
+        assert_eq!(call(2, 4), (0, (load, RECTANGLE)));
         assert_eq!(call(2, 3), (place(4, 12), kept));
         let spread = [512, 1_536, -2_560, -1_536, 7];
-        assert_eq!(call(3, 5), (0, (spread, ENCLOSED)));
-        assert_eq!(call(4, 5), (0, (spread, ENCLOSED)));
+        assert_eq!(call(3, 5), (0, (spread, RECTANGLE)));
+        assert_eq!(call(4, 5), (0, (spread, RECTANGLE)));
         // 13 and 14 are tried before the buffer, and the resistance before a missing reactance.
         assert_eq!(enclose(&ohms[3..], &mut [], &mut 7), place(0, 13));
         let too_far = [16_384.0, 0.0, 1.0];

@@ -3,7 +3,7 @@
 use crate::bridge::steps_of;
 use crate::calls::RECT_ROOM;
 use crate::coverage::{Line, Row};
-use crate::door::{ENCLOSED, FOUR, MODEL};
+use crate::door::{RECTANGLE, FOUR, MODEL};
 use crate::lent::{Compared, Lent, LentNumber};
 use crate::model::MAX_SIDE;
 use crate::pattern::{self, SIGN, SPECIALS};
@@ -168,7 +168,7 @@ impl Trial<'_> {
         if !self.rng.one_in(TRIED) {
             return Ok(());
         }
-        if outcome.is_ok() && found.left() == ENCLOSED {
+        if outcome.is_ok() && found.left() == RECTANGLE {
             self.try_point(&rect.left()[..FOUR])?;
         }
         self.try_zero_spread(ohms)?;
