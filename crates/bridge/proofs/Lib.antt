@@ -1,7 +1,8 @@
-pub mod Compare
 pub mod Exact
-pub mod Truncated
+pub mod Bits
 pub mod Steps
+pub mod ByBits
+pub mod Sizes
 pub mod Answers
 pub mod ZeroSpread
 pub mod Spread

@@ -1,3 +1,4 @@
 pub mod Value
 pub mod Bridge
+pub mod Inner
 pub mod Promises

@@ -3,6 +3,7 @@
 ghost use mathlib.Core.Path.{_≡_};
 ghost use Rattle.bridge.specs.declared.Measurement.the-variants.{LoadWithSpread};
 ghost use Rattle.bridge.specs.Bridge.{enclosed};
+ghost use Rattle.bridge.specs.Inner.{withSpread};
 use curve::Rect;
 use curve::Refusal;
 
@@ -70,26 +71,40 @@ fn enclose_load(resistance: f32, reactance: f32, spread: f32) -> BridgeAnswer
     }
 }
 
-// The smallest rectangle of whole steps that holds a load, widened by its spread. A plain load has a spread of zero.
+// A plain load as one with a spread of zero.
+fn with_spread(measurement: Measurement) -> Measurement
+    ensures { λ r. ⌜ r ≡ withSpread measurement ⌝ }
+{
+    match measurement {
+        Measurement::Load {
+            resistance,
+            reactance,
+        } => Measurement::LoadWithSpread {
+            resistance,
+            reactance,
+            spread: 0.0,
+        },
+        Measurement::NoCarrier => measurement,
+        Measurement::LoadWithSpread { .. } => measurement,
+    }
+}
+
+// The smallest rectangle of whole steps that holds a load, widened by its spread; refusals 13 and 14.
 pub fn enclose(measurement: Measurement) -> BridgeAnswer
     ensures { λ r. ⌜ r ≡ enclosed measurement ⌝ }
 {
-    match measurement {
-        Measurement::NoCarrier => BridgeAnswer {
+    match with_spread(measurement) {
+        Measurement::LoadWithSpread {
+            resistance,
+            reactance,
+            spread,
+        } => enclose_load(resistance, reactance, spread),
+        _ => BridgeAnswer {
             refusal: Refusal {
                 number: 0,
                 place: 0,
             },
             found: Found::Nothing,
         },
-        Measurement::Load {
-            resistance,
-            reactance,
-        } => enclose_load(resistance, reactance, 0.0),
-        Measurement::LoadWithSpread {
-            resistance,
-            reactance,
-            spread,
-        } => enclose_load(resistance, reactance, spread),
     }
 }

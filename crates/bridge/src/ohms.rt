@@ -1,36 +1,80 @@
-// Single-precision ohms: their tests, and the whole steps about them. A step is a power of two of an ohm, so that ohms times 1,024 are the steps, exactly.
+// Single-precision ohms by their bits: their tests, and the whole steps about them. No float is computed with, so that a processor that
+// takes subnormal numbers for zero answers alike. Without the sign, the bits of numbers are in the order of their sizes.
 ghost use mathlib.Core.Path.{_≡_};
+ghost use Prim.Native.Nat.{_≤_};
 ghost use lib.Dec.{T};
 ghost use Rattle.curve.specs.Inner.{Side, Sides};
 ghost use Rattle.bridge.specs.Value.{isLoad, isSpread, stepsAbout};
 ghost use Rattle.bridge.specs.Bridge.{widened};
+ghost use Rattle.bridge.specs.Inner.{largest, sizeAbout};
 use curve::Interval;
 
-// Whether a number is a coordinate of a load. Not a number fails every comparison.
+// The weights of the sign and of the exponent's lowest digit among the bits.
+const SIGN: u32 = 2147483648;
+
+const FIELD: u32 = 8388608;
+
+// The bits of 16,384 ohms and of one step, and the exponent's field of 16,384 ohms.
+const LARGEST: u32 = 1182793728;
+
+const STEP: u32 = 981467136;
+
+const LARGEST_FIELD: u32 = 141;
+
+// Whether a number is a coordinate of a load. What differs from itself is not a number.
 pub fn is_load(x: f32) -> bool
     ensures { λ r. ⌜ r ≡ isLoad x ⌝ }
 {
-    -16384.0 <= x && x <= 16384.0
+    if x != x {
+        return false;
+    }
+    f32::to_bits(x) % SIGN <= LARGEST
 }
 
-// Whether a number is a spread.
+// Whether a number is a spread; minus zero is one.
 pub fn is_spread(x: f32) -> bool
     ensures { λ r. ⌜ r ≡ isSpread x ⌝ }
 {
-    0.0 <= x && x <= 16384.0
+    if x != x {
+        return false;
+    }
+    let bits = f32::to_bits(x);
+    bits <= LARGEST || bits == SIGN
 }
 
-// The steps below and above a load's coordinate or a spread: the number toward zero, or the next one where that lies on the wrong side.
+// The steps below and above a size, by its bits. Of a step or more, the digits shifted by the exponent are its steps, rounded down; one
+// taken off before the shift and added after it rounds them up.
+fn size_about(bits: u32) -> Interval
+    requires { ⌜ bits ≤ largest ⌝ }
+    ensures { λ r. ⌜ r ≡ sizeAbout bits ⌝ }
+{
+    if bits < STEP {
+        return Interval {
+            low: 0,
+            high: (bits != 0) as i32,
+        };
+    }
+    let shift = LARGEST_FIELD - bits / FIELD;
+    let digits = 2 * (FIELD + bits % FIELD);
+    Interval {
+        low: (digits >> shift) as i32,
+        high: (((digits - 1) >> shift) + 1) as i32,
+    }
+}
+
+// The steps below and above a load's coordinate or a spread.
 pub fn steps_about(x: f32) -> Interval
     requires { ⌜ T (isLoad x) ⌝ }
     ensures { λ r. ⌜ r ≡ stepsAbout x ⌝ }
 {
-    let steps = x * 1024.0;
-    let near = std::num::truncating_f32_to_i64(steps) as i32;
-    let back = near as f32;
+    let bits = f32::to_bits(x);
+    let size = size_about(bits % SIGN);
+    if bits < SIGN {
+        return size;
+    }
     Interval {
-        low: near - (steps < back) as i32,
-        high: near + (back < steps) as i32,
+        low: 0 - size.high,
+        high: 0 - size.low,
     }
 }
 

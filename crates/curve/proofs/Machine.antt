@@ -1,7 +1,7 @@
--- Small facts that the functions' proofs share: a signed value comes back from its bits, and a test by `&&`.
+-- Small facts that the functions' proofs share: a signed value comes back from its bits, and tests by `&&` and `||`.
 -- Assumes nothing.
 use mathlib.Core.Path.{_≡_, sym, ap, _∙_}
-use mathlib.Core.Bool.{Bool, true, false, _&&_}
+use mathlib.Core.Bool.{Bool, true, false, _&&_, _||_}
 use Prim.Native.Nat.{ℕ, _<_, _^_}
 use native.Mathlib.Omega.{arith}
 use lib.IntN.{ℤ, pos}
@@ -28,3 +28,10 @@ and-yes {a} {b} e = ap (λ (x : Bool). x && b) (sym e)
 
 pub and-no : (a b : Bool) → a ≡ false → a ≡ (a && b)
 and-no a b e = e ∙ ap (λ (x : Bool). x && b) (sym e)
+
+-- `a || b` the same way
+pub or-yes : (a b : Bool) → a ≡ true → a ≡ (a || b)
+or-yes a b e = e ∙ ap (λ (x : Bool). x || b) (sym e)
+
+pub or-no : {a b : Bool} → a ≡ false → b ≡ (a || b)
+or-no {a} {b} e = ap (λ (x : Bool). x || b) (sym e)

@@ -3,7 +3,6 @@ pub mod Truth
 pub mod Whole
 pub mod Order
 pub mod Quotient
-pub mod Near
 pub mod Divisible
 pub mod Rational
 pub mod RationalOrder

@@ -5,8 +5,7 @@ use mathlib.Core.Bool.{Bool, true, false, not, cond}
 use mathlib.Core.Logic.{_⊎_, inl, inr}
 use Prim.Native.Nat.{ℕ, zero, suc, _+_, _*_, _-_, _≤_, _<_}
 use native.Mathlib.Omega.{arith}
-use lib.Dec.{T, not-T, ltb, leb→le, le→leb, ltb→lt, lt→ltb, nleb→lt, nltb→le}
-use lib.Ieee.Bits.{is-true, is-false}
+use lib.Dec.{T, ltb, leb→le, le→leb, ltb→lt, lt→ltb, nleb→lt, nltb→le}
 use lib.IntN.{ℤ, pos, negsuc, negℤ, subℕ, _+ℤ_, _*ℤ_, *ℤ-comm, +ℤ-assoc, +ℤ-comm, +ℤ-idr, +ℤ-invl}
 use lib.Signed.{leZ, ltZ, _≤ℤ_, _<ℤ_, leZ-yes, ltZ-yes, ≤ℤ-refl, clashℤ}
 use Rattle.rational.proofs.Whole.{add-mul, add-left-comm, add-right-cancel}
@@ -117,14 +116,6 @@ pub ≤ℤ-or-<ℤ : (a b : ℤ) → (a ≤ℤ b) ⊎ (b <ℤ a)
     by-test true h = inl (test-yes h)
     by-test false h = inr (test-no h)
 
--- below is not at least
-pub below-not : (a b : ℤ) → ltZ a b ≡ not (leZ b a)
-below-not a b = by-test (leZ b a) refl
-  where
-    by-test : (c : Bool) → leZ b a ≡ c → ltZ a b ≡ not c
-    by-test true h = is-false (ltZ a b) (not-T (ltZ a b) (λ t. clashℤ {a = a} {b = b} (ltZ-yes t) (test-yes {a = b} {b = a} h)))
-    by-test false h = is-true (ltZ a b) (test-no {a = b} {b = a} h .lt)
-
 -- a choice by the test, such as a minimum or a maximum
 pub chosen : (a b x y : ℤ) (P : ℤ → Type 0) → (a ≤ℤ b → P x) → (b <ℤ a → P y) → P (cond (leZ a b) x y)
 chosen a b x y P f g = pick (leZ a b) x y P (λ t. f (leZ-yes t)) (λ t. g (ltZ-yes (fails a b t)))
@@ -164,9 +155,6 @@ pub +ℤ-mono : {a b c d : ℤ} → a ≤ℤ b → c ≤ℤ d → (a +ℤ c) ≤
 pub +ℤ-cancel-left : {a b : ℤ} (c : ℤ) → (c +ℤ a) ≤ℤ (c +ℤ b) → a ≤ℤ b
 +ℤ-cancel-left {a} {b} c h = ≤ℤ-certificate h (simp (+ℤ-comm, add-left-comm))
 
-pub +ℤ-cancel-right : {a b : ℤ} (c : ℤ) → (a +ℤ c) ≤ℤ (b +ℤ c) → a ≤ℤ b
-+ℤ-cancel-right {a} {b} c h = ≤ℤ-certificate h (simp (+ℤ-assoc, +ℤ-comm, add-left-comm))
-
 pub negℤ-anti : {a b : ℤ} → a ≤ℤ b → negℤ b ≤ℤ negℤ a
 negℤ-anti {a} {b} h = ≤ℤ-certificate h (+ℤ-invl b ∙ sym (+ℤ-invl a))
 
@@ -189,15 +177,6 @@ suc-<ℤ {a} {b} h = elim (≤ℤ-or-<ℤ b a) [ inl k ↦ absurd (clash k) | in
     clash k =
         let wrong : 1 ≤ 0 = pos-reflects (+ℤ-cancel-left a (≤ℤ-trans h (≤ℤ-trans k (≤ℤ-reflexive (sym (+ℤ-idr a)))))) in
         omega arith
-
-pub ≤ℤ-<ℤ-trans : {a b c : ℤ} → a ≤ℤ b → b <ℤ c → a <ℤ c
-≤ℤ-<ℤ-trans h k = suc-<ℤ (≤ℤ-trans (+ℤ-mono-right (pos 1) h) (<ℤ-suc k))
-
-pub +ℤ-strict : {a b : ℤ} (c : ℤ) → a <ℤ b → (a +ℤ c) <ℤ (b +ℤ c)
-+ℤ-strict {a} {b} c h = suc-<ℤ (≤ℤ-trans (≤ℤ-reflexive (swap a c (pos 1))) (+ℤ-mono-right c (<ℤ-suc h)))
-  where
-    swap : (a c o : ℤ) → a +ℤ c +ℤ o ≡ a +ℤ o +ℤ c
-    swap a c o = simp (+ℤ-assoc, +ℤ-comm)
 
 -- ---- products
 

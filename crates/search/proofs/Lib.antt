@@ -1,5 +1,4 @@
 -- Laws of the definitions in specs/, and the promises.
-pub mod Tests
 pub mod Steps
 pub mod Counts
 pub mod Due

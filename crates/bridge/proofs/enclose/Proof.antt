@@ -1,48 +1,56 @@
--- `enclose` meets its contract: each form is a case of the definition, and a plain load a spread of zero.
+-- `enclose` meets its contract: a load by its spread, which a plain one has at zero, and no carrier by itself.
 -- Assumes nothing.
-use mathlib.Core.Path.{sym, ap, _∙_}
-use lib.Ieee.{ofBits}
+use mathlib.Core.Path.{_≡_, refl, sym, ap, _∙_, subst}
+use mathlib.Core.List.{[], _∷_}
+use mathlib.Core.Logic.{inl, inr}
+use Prim.Native.Nat.{ℕ}
+use native.Mathlib.Omega.{arith}
+use types.Run.{OneOf}
+use denote.Enum.Declared as Declared
 use borrow.Author.Needs.{needs}
+use Rattle.curve.specs.Refusals.{none}
+use Rattle.bridge.specs.declared.Measurement.{Measurement}
+use Rattle.bridge.specs.declared.Measurement.the-variants.{NoCarrier, Load, LoadWithSpread}
+use Rattle.bridge.specs.declared.Found.the-variants.{Nothing}
+use Rattle.bridge.specs.declared.BridgeAnswer.{BridgeAnswer}
 use Rattle.bridge.specs.Bridge.{enclosed}
+use Rattle.bridge.specs.Inner.{withSpread}
+use Rattle.bridge.proofs.Measurement as Kind
 use Rattle.bridge.proofs.ZeroSpread.{zero-spread}
 use Rattle.bridge.proofs.enclose.Statement.{statement}
 use Rattle.bridge.proofs.enclose.Tie as tie
 
-enum-told : tie.Need-enum-told
-enum-told c = search needs
+-- 2 is neither 0 nor 1
+neither : OneOf (0 ∷ 1 ∷ []) 2 → ⊥
+neither (inl e) = omega arith
+neither (inr e) = omega arith
 
-enum-known-measurement : tie.Need-enum-known-measurement
-enum-known-measurement c = search needs
-
-enclose-load-requires : tie.Need-enclose-load-requires
-enclose-load-requires c κs = search needs
-
-enum-known-measurement-2 : tie.Need-enum-known-measurement-2
-enum-known-measurement-2 c = search needs
-
-enclose-load-requires-2 : tie.Need-enclose-load-requires-2
-enclose-load-requires-2 c κs = search needs
+-- a spread of zero changes no answer
+same-answer : (m : Measurement) → enclosed (withSpread m) ≡ enclosed m
+same-answer NoCarrier = refl
+same-answer (Load r x) = zero-spread r x
+same-answer (LoadWithSpread r x spread) = refl
 
 returns : tie.Need-returns
-unfolding enclosed
-returns c = ap enclosed (sym (c .enum-told .given .1))
+returns c =
+    let m = c .before .before .before .before .before .args .measurement in
+    c .enclose-load .ensures ∙ ap enclosed (sym (c .before .before .resistance .given .1) ∙ c .before .before .before .before .with-spread .ensures) ∙ same-answer m
+
+-- what is no load with a spread is no carrier
+tag : Measurement → ℕ
+tag m = Declared.tagOf Kind.the-type m
+
+no-load : (m : Measurement) → OneOf (0 ∷ 1 ∷ []) (tag (withSpread m)) → _≡_ {A = BridgeAnswer} (record { refusal = none; found = Nothing }) (enclosed m)
+unfolding enclosed tag
+no-load NoCarrier k = refl
+no-load (Load r x) k = absurd (neither k)
+no-load (LoadWithSpread r x spread) k = absurd (neither k)
 
 returns-2 : tie.Need-returns-2
-unfolding ofBits
-returns-2 c = c .enclose-load .ensures ∙ zero-spread _ _ ∙ ap enclosed (sym (c .before .before .measurement .given .1))
-
-returns-3 : tie.Need-returns-3
-returns-3 c = c .enclose-load2 .ensures ∙ ap enclosed (sym (c .before .before .measurement2 .given .1))
+unfolding tag
+returns-2 c = no-load (c .before .before .args .measurement) (subst (λ (m : Measurement). OneOf (0 ∷ 1 ∷ []) (tag m)) (c .before .with-spread .ensures) (c .match .keys2))
 
 pub enclose-spec : {M : Type 1} → statement M
 enclose-spec =
     tie.close
-    (tie.spec
-    enum-told
-    enum-known-measurement
-    enclose-load-requires
-    enum-known-measurement-2
-    enclose-load-requires-2
-    returns
-    returns-2
-    returns-3)
+    (tie.spec (λ c κs. search needs) (λ c. search needs) (λ c κs. search needs) returns returns-2)

@@ -2,23 +2,21 @@
 -- Assumes nothing.
 use mathlib.Core.Path.{sym, subst₂}
 use native.Mathlib.Omega.{arith}
-use lib.IntN.{ℤ, negℤ, _+ℤ_, _-ℤ_}
+use lib.IntN.{ℤ, _+ℤ_, _-ℤ_}
 use mir.Syntax.{w32}
 use mir.Val.{SFits}
 use Rattle.rational.specs.Rounding.{down, up}
-use Rattle.rational.proofs.Order.{+ℤ-mono, negℤ-anti}
+use Rattle.rational.proofs.Order.{+ℤ-mono}
 use Rattle.curve.specs.Inner.{Side}
 use Rattle.curve.proofs.Machine.{back}
 use Rattle.curve.proofs.Sides.{within-fits, side-back}
+use Rattle.bridge.proofs.Steps.{negated}
 use Rattle.bridge.proofs.ohms.widened.Statement.{statement}
 use Rattle.bridge.proofs.ohms.widened.Tie as tie
 
 -- the sum of two sides fits
 sum-fits : {a b : ℤ} → Side a → Side b → SFits w32 (a +ℤ b)
 sum-fits {a} {b} h k = within-fits 33554431 (a +ℤ b) (omega arith) (+ℤ-mono (h .from) (k .from)) (+ℤ-mono (h .to) (k .to))
-
-negated : {a : ℤ} → Side a → Side (negℤ a)
-negated h = record { from = negℤ-anti (h .to); to = negℤ-anti (h .from) }
 
 sub-t3 : tie.Need-sub-t3
 sub-t3 c =
