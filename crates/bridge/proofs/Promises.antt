@@ -25,7 +25,7 @@ use Rattle.bridge.specs.declared.Measurement.the-variants.{NoCarrier, Lo
 use Rattle.bridge.specs.declared.Found.the-variants.{Refused, Rectangle}
 use Rattle.bridge.specs.Value.{steps, stepAt, stepsAbout}
 use Rattle.bridge.specs.Bridge.{moved, loadRect, spreadRect, loadRefusal, numberRefusal, sideRefusal, spreadRefusal, answered, enclosed}
-use Rattle.bridge.specs.Promises.{Encloses, of, Holds, Smallest, SpreadHolds, SpreadMoves, GoodRect}
+use Rattle.bridge.specs.Promises.{Encloses, numberOf, Holds, Smallest, SpreadHolds, SpreadMoves, GoodRect}
 use Rattle.bridge.proofs.Steps.{spread-steps}
 use Rattle.bridge.proofs.Answers.{answered-gives, numbers-passed, sides-passed}
 use Rattle.bridge.proofs.ZeroSpread.{zero-spread}
@@ -42,14 +42,14 @@ rectangle-given r p q h = go (eqb (r .number) 0) refl
     go false e = let given : Refused ≡ Rectangle q = rw e at h in let wrong : _≡_ {A = ℕ} 0 1 = cc in absurd (omega arith)
 
 -- a load's sides are the steps below and above, and with a spread they are moved
-load-side-is : (r x : Float) (c : Coordinate) (o : Rounding) → side c o (loadRect r x) ≡ stepAt o (of c r x)
+load-side-is : (r x : Float) (c : Coordinate) (o : Rounding) → side c o (loadRect r x) ≡ stepAt o (numberOf c r x)
 unfolding loadRect stepsAbout
 load-side-is r x resistance down = refl
 load-side-is r x resistance up = refl
 load-side-is r x reactance down = refl
 load-side-is r x reactance up = refl
 
-spread-side-is : (r x spread : Float) (c : Coordinate) (o : Rounding) → side c o (spreadRect r x spread) ≡ moved o (stepAt o (of c r x)) (stepAt up spread)
+spread-side-is : (r x spread : Float) (c : Coordinate) (o : Rounding) → side c o (spreadRect r x spread) ≡ moved o (stepAt o (numberOf c r x)) (stepAt up spread)
 unfolding spreadRect stepsAbout
 spread-side-is r x spread resistance down = refl
 spread-side-is r x spread resistance up = refl
@@ -88,9 +88,9 @@ pub smallest : Smallest
 unfolding enclosed
 smallest r x p e =
     let same = rectangle-given (loadRefusal r x) (loadRect r x) p e .1 in
-    subst (λ (p : Rect). ((c : Coordinate) → Holds p c (steps (of c r x))) × ((q : Rect) → ((c : Coordinate) → Holds q c (steps (of c r x))) → Inside p q)) same (
-      (λ c o. subst (Bounded o (steps (of c r x))) (sym (load-side-is r x c o)) (step-holds o (of c r x))),
-      (λ q h. record { at = λ c o. subst (λ (z : ℤ). Outward o z (side c o q)) (sym (load-side-is r x c o)) (step-nearest o (of c r x) (side c o q) (h c o)) }),
+    subst (λ (p : Rect). ((c : Coordinate) → Holds p c (steps (numberOf c r x))) × ((q : Rect) → ((c : Coordinate) → Holds q c (steps (numberOf c r x))) → Inside p q)) same (
+      (λ c o. subst (Bounded o (steps (numberOf c r x))) (sym (load-side-is r x c o)) (step-holds o (numberOf c r x))),
+      (λ q h. record { at = λ c o. subst (λ (z : ℤ). Outward o z (side c o q)) (sym (load-side-is r x c o)) (step-nearest o (numberOf c r x) (side c o q) (h c o)) }),
     )
 
 -- ---- a spread
@@ -103,13 +103,13 @@ module _ (r x spread : Float) (p : Rect) (e : Encloses (LoadWithSpread r x sprea
       let (numbers, sides) = or-split (numberRefusal r x spread) (sideRefusal (spreadRect r x spread)) passed in
       (numbers, sides, same)
 
-  moved-side : (c : Coordinate) (o : Rounding) → side c o p ≡ moved o (stepAt o (of c r x)) (stepAt up spread)
+  moved-side : (c : Coordinate) (o : Rounding) → side c o p ≡ moved o (stepAt o (numberOf c r x)) (stepAt up spread)
   moved-side c o = ap (side c o) (sym (spread-passed .2)) ∙ spread-side-is r x spread c o
 
 pub spread-holds : SpreadHolds
 spread-holds r x spread p e c v above below o =
     subst (Bounded o v) (sym (moved-side r x spread p e c o))
-    (moved-bounds (stepAt o (of c r x)) (stepAt up spread) (steps (of c r x)) (steps spread) v (step-holds up spread) o (step-holds o (of c r x)) above below)
+    (moved-bounds (stepAt o (numberOf c r x)) (stepAt up spread) (steps (numberOf c r x)) (steps spread) v (step-holds up spread) o (step-holds o (numberOf c r x)) above below)
 
 pub spread-moves : SpreadMoves
 spread-moves r x spread p e = (
@@ -140,7 +140,7 @@ spread-good r x spread p e =
     ordered : (c : Coordinate) → side c down p ≤ℤ side c up p
     ordered c =
         subst₂ _≤ℤ_ (sym (moved-side r x spread p e c down)) (sym (moved-side r x spread p e c up))
-        (still-ordered (step-order (of c r x)) (spread-steps spread (numbers-passed r x spread (spread-passed r x spread p e .0) .1)))
+        (still-ordered (step-order (numberOf c r x)) (spread-steps spread (numbers-passed r x spread (spread-passed r x spread p e .0) .1)))
 
 pub good-rect : GoodRect
 good-rect NoCarrier p e = unfold enclosed in let wrong : _≡_ {A = ℕ} 0 1 = cc in absurd (omega arith)

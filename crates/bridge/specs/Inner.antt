@@ -15,21 +15,23 @@ withSpread NoCarrier = NoCarrier
 withSpread (Load r x) = LoadWithSpread r x (fin false 0 (pos 0))
 withSpread (LoadWithSpread r x spread) = LoadWithSpread r x spread
 
--- the weights of the sign and of the exponent's lowest digit among the bits
+-- ---- a number by its bits: the sign, the exponent's field, and the digits below the leading one
+
+-- the weights of the sign and of the exponent's field
 abbrev pub sign : ℕ
-sign = 2147483648
+sign = 0x80000000
 
 abbrev pub field : ℕ
-field = 8388608
+field = 0x800000
 
 -- the bits of 16,384 ohms and of one step
 abbrev pub largest : ℕ
-largest = 1182793728
+largest = 0x46800000
 
 abbrev pub step : ℕ
-step = 981467136
+step = 0x3a800000
 
--- the size of a finite number in units of the smallest one, 2^-149 ohm, by the exponent's field and the other digits
+-- the size of a finite number in units of the smallest one, 2^-149 ohm, by its exponent's field and its digits
 unfoldable pub unitsBy : ℕ → ℕ → ℕ
 unitsBy zero digits = digits
 unitsBy (suc exponent) digits = (field + digits) * 2 ^ exponent

@@ -17,7 +17,7 @@ use Rattle.bridge.specs.declared.Found.the-variants.{Rectangle}
 use Rattle.bridge.specs.Value.{signed, finite, ohms, steps, stepAt}
 use Rattle.bridge.specs.Bridge.{moved, enclosed}
 
--- the value of a number is its exact one: sign s and size a / d
+-- the value of a number is its exact one, with sign s and size a / d
 abbrev pub ExactValue : Type 0
 ExactValue = (x : Float) (s : Bool) (a d : ℕ) (h : 0 < d) → HasValue x s a d → (finite x ≡ true) × Equal (ohms x) (over d h (signed s a))
 
@@ -26,9 +26,9 @@ abbrev pub Encloses : Measurement → Rect → Type 0
 Encloses m p = enclosed m .found ≡ Rectangle p
 
 -- a load's number in a coordinate
-abbrev pub of : Coordinate → Float → Float → Float
-of resistance r x = r
-of reactance r x = x
+abbrev pub numberOf : Coordinate → Float → Float → Float
+numberOf resistance r x = r
+numberOf reactance r x = x
 
 -- a rectangle of whole steps holds a value in a coordinate, edges included
 abbrev pub Holds : Rect → Coordinate → Frac → Type 0
@@ -38,14 +38,14 @@ Holds p c v = (r : Rounding) → Bounded r v (side c r p)
 abbrev pub Smallest : Type 0
 Smallest =
     (r x : Float) (p : Rect) → Encloses (Load r x) p →
-    ((c : Coordinate) → Holds p c (steps (of c r x)))
-    × ((q : Rect) → ((c : Coordinate) → Holds q c (steps (of c r x))) → Inside p q)
+    ((c : Coordinate) → Holds p c (steps (numberOf c r x)))
+    × ((q : Rect) → ((c : Coordinate) → Holds q c (steps (numberOf c r x))) → Inside p q)
 
 -- with a spread, every value within the spread of the load lies in the rectangle: neither is above the other by more than the spread
 abbrev pub SpreadHolds : Type 0
 SpreadHolds =
     (r x spread : Float) (p : Rect) → Encloses (LoadWithSpread r x spread) p → (c : Coordinate) (v : Frac) →
-    steps (of c r x) ≤ᶠ v +ᶠ steps spread → v ≤ᶠ steps (of c r x) +ᶠ steps spread → Holds p c v
+    steps (numberOf c r x) ≤ᶠ v +ᶠ steps spread → v ≤ᶠ steps (numberOf c r x) +ᶠ steps spread → Holds p c v
 
 -- its sides are those of the plain load, moved outward by the spread rounded up to steps
 pub record Moved (r x spread : Float) (p plain : Rect) : Type 0 where

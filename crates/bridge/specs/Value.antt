@@ -22,13 +22,13 @@ abbrev pub signed : Bool → ℕ → ℤ
 signed false size = pos size
 signed true size = negℤ (pos size)
 
--- whether a number is finite
+-- whether a number is finite: neither an infinity nor not a number
 unfoldable pub finite : Float → Bool
 finite nan = false
 finite (inf s) = false
 finite (fin s m e) = true
 
--- its exact value; one that is not finite has none, and is never asked for it
+-- its exact value; 0 stands for one that is not finite, which has none, and no answer rests on that
 unfoldable pub ohms : Float → Frac
 ohms nan = whole (pos 0)
 ohms (inf s) = whole (pos 0)
@@ -50,7 +50,7 @@ unfoldable pub isFrom : ℤ → ℤ → Float → Bool
 isFrom least most x =
     finite x && leZ (least *ℤ pos (ohms x .lower)) (ohms x .upper) && leZ (ohms x .upper) (most *ℤ pos (ohms x .lower))
 
--- a coordinate of a load that is not refused, and a spread
+-- a load's resistance or reactance, and a spread, that are not refused
 abbrev pub isLoad : Float → Bool
 isLoad = isFrom (negℤ (pos maxOhms)) (pos maxOhms)
 

@@ -1,5 +1,5 @@
-// Single-precision ohms by their bits: their tests, and the whole steps about them. No float is computed with, so that a processor that
-// takes subnormal numbers for zero answers alike. Without the sign, the bits of numbers are in the order of their sizes.
+// Single-precision ohms by their bits: their tests, and the whole steps about them. Without the sign, bits are in the order of the sizes.
+// No float is computed with, so that a processor that takes subnormal numbers for zero, or rounds another way, answers alike.
 ghost use mathlib.Core.Path.{_≡_};
 ghost use Prim.Native.Nat.{_≤_};
 ghost use lib.Dec.{T};
@@ -9,15 +9,15 @@ ghost use Rattle.bridge.specs.Bridge.{widened};
 ghost use Rattle.bridge.specs.Inner.{largest, sizeAbout};
 use curve::Interval;
 
-// The weights of the sign and of the exponent's lowest digit among the bits.
-const SIGN: u32 = 2147483648;
+// The weights of the sign and of the exponent's field among the bits.
+const SIGN: u32 = 0x8000_0000;
 
-const FIELD: u32 = 8388608;
+const FIELD: u32 = 0x80_0000;
 
 // The bits of 16,384 ohms and of one step, and the exponent's field of 16,384 ohms.
-const LARGEST: u32 = 1182793728;
+const LARGEST: u32 = 0x4680_0000;
 
-const STEP: u32 = 981467136;
+const STEP: u32 = 0x3a80_0000;
 
 const LARGEST_FIELD: u32 = 141;
 
@@ -42,8 +42,8 @@ pub fn is_spread(x: f32) -> bool
     bits <= LARGEST || bits == SIGN
 }
 
-// The steps below and above a size, by its bits. Of a step or more, the digits shifted by the exponent are its steps, rounded down; one
-// taken off before the shift and added after it rounds them up.
+// The steps below and above a size, by its bits. 16,384 ohms are 2^24 steps, so twice the digits, shifted by as much as the exponent is
+// below that of 16,384 ohms, are the steps rounded down; one taken off before the shift and added after it rounds them up.
 fn size_about(bits: u32) -> Interval
     requires { ⌜ bits ≤ largest ⌝ }
     ensures { λ r. ⌜ r ≡ sizeAbout bits ⌝ }

@@ -8,7 +8,7 @@ use Rattle.rational.specs.Rounding.{down, up}
 use Rattle.curve.specs.declared.Interval.{Interval}
 use Rattle.curve.specs.declared.Rect.{Rect}
 use Rattle.curve.specs.Inner.{Side, Sides}
-use Rattle.curve.proofs.Sides.{side-back}
+use Rattle.curve.proofs.Sides.{side-back, side-passed}
 use Rattle.curve.proofs.Refused.{number-passed}
 use mir.Syntax.{w32}
 use mir.Val.{toZ, ofZ}
@@ -50,20 +50,17 @@ about-sides : (x : Float) {i : Interval} → T (isLoad x) → i ≡ stepsAbout x
 unfolding stepsAbout
 about-sides x t e = subst Sides (sym e) (record { at = elim [ down ↦ load-side down x t | up ↦ load-side up x t ] })
 
--- the spread in steps, as it is passed on
-by-is : (c : tie.After-steps-about) → toZ w32 (ofZ w32 (c .steps-about .result .high)) ≡ stepAt up (c .before .before .before .before .args .spread)
-unfolding stepsAbout
-by-is c =
-    ap (λ (i : Interval). toZ w32 (ofZ w32 (i .high))) (c .steps-about .ensures)
-    ∙ side-back (load-side up (c .before .before .before .before .args .spread) (in-range (c .before) .2))
-
-by-side : (c : tie.After-steps-about) → Side (toZ w32 (ofZ w32 (c .steps-about .result .high)))
-by-side c = subst Side (sym (by-is c)) (load-side up (c .before .before .before .before .args .spread) (in-range (c .before) .2))
+-- so are the ends of the spread's, as one of them is passed on
+spread-sides : (c : tie.After-steps-about) → Side (toZ w32 (ofZ w32 (c .steps-about .result .low))) × Side (toZ w32 (ofZ w32 (c .steps-about .result .high)))
+spread-sides c =
+    let s = about-sides (c .before .before .before .before .args .spread) (in-range (c .before) .2) (c .steps-about .ensures) in
+    (side-passed (s .at down), side-passed (s .at up))
 
 widened-requires : tie.Need-widened-requires
 widened-requires c κs =
     let e = c .before .before .before in
-    (about-sides (e .before .before .before .args .resistance) (in-range e .0) (c .steps-about2 .ensures), by-side (c .before .before))
+    let (low, high) = spread-sides (c .before .before) in
+    (about-sides (e .before .before .before .args .resistance) (in-range e .0) (c .steps-about2 .ensures), search needs)
 
 steps-about-requires-3 : tie.Need-steps-about-requires-3
 steps-about-requires-3 c κs = in-range (c .before .before .before .before) .1
@@ -71,7 +68,15 @@ steps-about-requires-3 c κs = in-range (c .before .before .before .before) .1
 widened-requires-2 : tie.Need-widened-requires-2
 widened-requires-2 c κs =
     let e = c .before .before .before .before .before in
-    (about-sides (e .before .before .before .args .reactance) (in-range e .1) (c .steps-about3 .ensures), by-side (c .before .before .before .before))
+    let (low, high) = spread-sides (c .before .before .before .before) in
+    (about-sides (e .before .before .before .args .reactance) (in-range e .1) (c .steps-about3 .ensures), search needs)
+
+-- the spread rounded up, as it is passed on
+by-is : (c : tie.After-steps-about) → toZ w32 (ofZ w32 (c .steps-about .result .high)) ≡ stepAt up (c .before .before .before .before .args .spread)
+unfolding stepsAbout
+by-is c =
+    ap (λ (i : Interval). toZ w32 (ofZ w32 (i .high))) (c .steps-about .ensures)
+    ∙ side-back (load-side up (c .before .before .before .before .args .spread) (in-range (c .before) .2))
 
 -- both coordinates, widened
 rect-is : (c : tie.After-widened2) →

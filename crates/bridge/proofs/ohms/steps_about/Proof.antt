@@ -1,6 +1,7 @@
 -- `steps_about` meets its contract: those of its size, and below zero the same turned about.
 -- Assumes nothing.
-use mathlib.Core.Path.{_≡_, sym, ap, _∙_, subst}
+use mathlib.Core.Path.{_≡_, sym, ap, ap₂, _∙_, subst}
+use borrow.Author.Needs.{needs}
 use lib.IntN.{ℤ, pos, negℤ, _-ℤ_, +ℤ-idl, negℤ-negℤ}
 use mir.Syntax.{w32}
 use mir.Val.{SFits, toZ, ofZ}
@@ -42,22 +43,29 @@ high-is c =
     let f = about-below (s .args .x) (s .good .0 .1) (s .pre) (c .if1 .left) in
     taken-off (c .before .size-about .result .low) (load-side up (s .args .x) (s .pre)) (f .1 ∙ ap (λ (i : Interval). negℤ (i .low)) (sym (c .before .size-about .ensures)))
 
+-- either end of the size, taken off 0, fits
+fits-both : (c : tie.Else1) →
+    SFits w32 (pos 0 -ℤ toZ w32 (ofZ w32 (c .before .size-about .result .low))) × SFits w32 (pos 0 -ℤ toZ w32 (ofZ w32 (c .before .size-about .result .high)))
+fits-both c =
+    let s = c .before .before in (
+      subst (SFits w32) (sym (high-is c)) (side-fits (load-side up (s .args .x) (s .pre))),
+      subst (SFits w32) (sym (low-is c)) (side-fits (load-side down (s .args .x) (s .pre))),
+    )
+
 sub-t6 : tie.Need-sub-t6
-sub-t6 c =
-    let s = c .before .before .before .before in
-    subst (SFits w32) (sym (low-is (c .before .before))) (side-fits (load-side down (s .args .x) (s .pre)))
+sub-t6 c = let (low, high) = fits-both (c .before .before) in search needs
 
 sub-t7 : tie.Need-sub-t7
-sub-t7 c =
-    let s = c .before .before .before .before .before .before in
-    subst (SFits w32) (sym (high-is (c .before .before .before .before))) (side-fits (load-side up (s .args .x) (s .pre)))
+sub-t7 c = let (low, high) = fits-both (c .before .before .before .before) in search needs
 
 returns-2 : tie.Need-returns-2
 unfolding stepsAbout
 returns-2 c =
     let e = c .before .before .before .before in
     let s = e .before .before in
-    rw (low-is e, high-is e, side-back (load-side down (s .args .x) (s .pre)), side-back (load-side up (s .args .x) (s .pre)))
+    ap₂ (λ (l h : ℤ). record { low = l; high = h })
+    (ap (λ (z : ℤ). toZ w32 (ofZ w32 z)) (low-is e) ∙ side-back (load-side down (s .args .x) (s .pre)))
+    (ap (λ (z : ℤ). toZ w32 (ofZ w32 z)) (high-is e) ∙ side-back (load-side up (s .args .x) (s .pre)))
 
 pub steps-about-spec : {M : Type 1} → statement M
 steps-about-spec =
