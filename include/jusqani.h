@@ -112,12 +112,13 @@ uint64_t jusqani_search(uint32_t degree, const int32_t *sides, size_t sides_leng
 
 /*
  * Encloses what the bridge measured in a rectangle of whole steps. The length of ohms tells the form: 0 numbers are no
- * carrier, 2 are a load (resistance, reactance), 3 a load with a spread. Of a single number the reactance is missing,
- * which counts as not a number, and numbers past the third are not read. *found becomes JUSQANI_NO_CARRIER, which is a
- * normal result without a rectangle, or JUSQANI_RECTANGLE, and the rectangle's four sides are then stored in rect: the
- * smallest one that holds the load, its low sides less and its high sides plus the spread, rounded up to steps. Minus
- * zero counts as zero. Refusals 13, 14 and 12: there is a rectangle, and rect is shorter than 4. A refusal changes
- * neither rect nor *found; no carrier changes no number of rect.
+ * carrier, 2 a load (resistance, reactance), 3 a load with a spread. A single number lacks its reactance, which then
+ * counts as not a number; numbers past the third are not read. Minus zero counts as zero. *found becomes
+ * JUSQANI_NO_CARRIER, a normal result without a rectangle, or JUSQANI_RECTANGLE with the four sides stored in rect: in
+ * each coordinate the step below the load and the step above it, the low one less and the high one plus the spread,
+ * which is by itself rounded up to steps. Refusals 13, 14 and 12: there is a rectangle, and rect is shorter than 4. A
+ * refusal changes neither rect nor *found, and no carrier does not change rect. No answer depends on the processor's
+ * floating-point mode.
  */
 uint64_t jusqani_enclose(const float *ohms, size_t ohms_length, int32_t *rect, size_t rect_length, uint32_t *found);
 
