@@ -1,7 +1,7 @@
 //! The second program tried on the bridge's call: every fault in it, one each, must be found out.
 
 use crate::bridge::steps_of;
-use crate::door::{Door, OnMeasured, RECTANGLE, FOUR, MODEL, NO_CARRIER};
+use crate::door::{Door, OnMeasured, FOUR, MODEL, NO_CARRIER, RECTANGLE};
 use crate::measured;
 use crate::pattern::{is_whole, FIELDS, SIGN, SPECIALS};
 use crate::rng::Rng;

@@ -3,7 +3,7 @@
 use crate::bridge::steps_of;
 use crate::calls::RECT_ROOM;
 use crate::coverage::{Line, Row};
-use crate::door::{RECTANGLE, FOUR, MODEL};
+use crate::door::{FOUR, MODEL, RECTANGLE};
 use crate::lent::{Compared, Lent, LentNumber};
 use crate::model::MAX_SIDE;
 use crate::pattern::{self, SIGN, SPECIALS};
