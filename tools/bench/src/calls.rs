@@ -1,30 +1,35 @@
 //! The calls that are timed, each on the same input and with buffers of its own, and how the sides and the
-//! exact flag of its result are read off its buffers. Only the calls are timed.
+//! flag of its result are read off its buffers. Only the calls are timed.
 
-use crate::plain;
+use crate::{plain, plain_enclose};
 use jusqani::{raw, CURVE_LENGTH, MAX_DEGREE, PLACES, RECT_LENGTH};
 
 /// The sides of a curve of the highest degree, and of the two pieces of one.
 pub const CURVE_SIDES: usize = RECT_LENGTH * PLACES;
 pub const PIECES_SIDES: usize = 2 * CURVE_SIDES;
 
-/// What both sides are given: a curve of the highest degree and a parameter.
+/// What both sides are given to evaluate or subdivide: a curve of the highest degree and a parameter.
 pub struct Input {
     pub sides: [i32; CURVE_SIDES],
     pub num: u32,
     pub den: u32,
 }
 
+/// What both sides are given to enclose: a resistance and a reactance in ohms, with or without a spread.
+pub type Measured<const NUMBERS: usize> = [f32; NUMBERS];
+pub const PLAIN_LOAD: usize = 2;
+pub const WITH_SPREAD: usize = 3;
+
 /// The buffers for the results: ours are as include/jusqani.h has them, plain Rust's are sides alone. Each
-/// has a flag of its own.
+/// has a flag of its own, which tells whether the result is exact, or what was found.
 pub struct Buffers {
     load: [i32; RECT_LENGTH],
     ohms: [f32; RECT_LENGTH],
     left: [i32; CURVE_LENGTH],
     right: [i32; CURVE_LENGTH],
-    exact: u32,
+    flag: u32,
     plain: [i32; PIECES_SIDES],
-    plain_exact: u32,
+    plain_flag: u32,
 }
 
 /// What a flag holds before a call.
@@ -36,55 +41,69 @@ impl Buffers {
         ohms: [0.0; RECT_LENGTH],
         left: [0; CURVE_LENGTH],
         right: [0; CURVE_LENGTH],
-        exact: NO_FLAG,
+        flag: NO_FLAG,
         plain: [0; PIECES_SIDES],
-        plain_exact: NO_FLAG,
+        plain_flag: NO_FLAG,
     };
 }
 
 /// A call, which answers 0 where it is not refused, and the sides and the flag that it left.
-pub struct Call {
-    pub run: fn(&Input, &mut Buffers) -> u64,
+pub struct Call<I> {
+    pub run: fn(&I, &mut Buffers) -> u64,
     pub result: fn(&Buffers) -> (Vec<i32>, u32),
 }
 
 /// An operation by both sides.
-pub struct Operation {
+pub struct Operation<I> {
     pub name: &'static str,
-    pub ours: Call,
-    pub plain: Call,
+    pub ours: Call<I>,
+    pub plain: Call<I>,
 }
 
-pub const EVALUATE: Operation = Operation {
+pub const EVALUATE: Operation<Input> = Operation {
     name: "evaluate",
     ours: Call {
         run: |Input { sides, num, den }, out| {
-            let (load, ohms, exact) = (&mut out.load, &mut out.ohms, &mut out.exact);
+            let (load, ohms, exact) = (&mut out.load, &mut out.ohms, &mut out.flag);
             raw::evaluate(MAX_DEGREE, sides, *num, *den, load, ohms, exact)
         },
-        result: |out| (out.load.to_vec(), out.exact),
+        result: |out| (out.load.to_vec(), out.flag),
     },
     plain: Call {
         run: |Input { sides, num, den }, out| {
-            plain::evaluate(sides, *num, *den, &mut out.plain, &mut out.plain_exact).into()
+            plain::evaluate(sides, *num, *den, &mut out.plain, &mut out.plain_flag).into()
         },
-        result: |out| (out.plain[..RECT_LENGTH].to_vec(), out.plain_exact),
+        result: |out| (out.plain[..RECT_LENGTH].to_vec(), out.plain_flag),
     },
 };
 
-pub const SUBDIVIDE: Operation = Operation {
+pub const SUBDIVIDE: Operation<Input> = Operation {
     name: "subdivide",
     ours: Call {
         run: |Input { sides, num, den }, out| {
-            let (left, right, exact) = (&mut out.left, &mut out.right, &mut out.exact);
+            let (left, right, exact) = (&mut out.left, &mut out.right, &mut out.flag);
             raw::subdivide(MAX_DEGREE, sides, *num, *den, left, right, exact)
         },
-        result: |out| ([&out.left[1..], &out.right[1..]].concat(), out.exact),
+        result: |out| ([&out.left[1..], &out.right[1..]].concat(), out.flag),
     },
     plain: Call {
         run: |Input { sides, num, den }, out| {
-            plain::subdivide(sides, *num, *den, &mut out.plain, &mut out.plain_exact).into()
+            plain::subdivide(sides, *num, *den, &mut out.plain, &mut out.plain_flag).into()
         },
-        result: |out| (out.plain.to_vec(), out.plain_exact),
+        result: |out| (out.plain.to_vec(), out.plain_flag),
     },
 };
+
+pub const fn enclose<const NUMBERS: usize>() -> Operation<Measured<NUMBERS>> {
+    Operation {
+        name: "enclose",
+        ours: Call {
+            run: |ohms, out| raw::enclose(ohms, &mut out.load, &mut out.flag),
+            result: |out| (out.load.to_vec(), out.flag),
+        },
+        plain: Call {
+            run: |ohms, out| plain_enclose::enclose(ohms, &mut out.plain, &mut out.plain_flag),
+            result: |out| (out.plain[..RECT_LENGTH].to_vec(), out.plain_flag),
+        },
+    }
+}

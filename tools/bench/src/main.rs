@@ -1,12 +1,14 @@
-//! Times our evaluate and subdivide beside plain Rust: one process, the same inputs of degree 8, rounds
-//! in turn. It prints the median time of a call on each side, and the median and the middle half of the
+//! Times our evaluate, subdivide and enclose beside plain Rust: one process, the same inputs, rounds in
+//! turn. It prints the median time of a call on each side, and the median and the middle half of the
 //! ratios, ours to plain.
 #![forbid(unsafe_code)]
 
 mod calls;
 mod plain;
+mod plain_enclose;
 
-use calls::{Buffers, Call, Input, Operation, CURVE_SIDES, EVALUATE, SUBDIVIDE};
+use calls::{enclose, Buffers, Call, Input, Measured, Operation};
+use calls::{CURVE_SIDES, EVALUATE, PLAIN_LOAD, SUBDIVIDE, WITH_SPREAD};
 use jusqani::{MAX_DEGREE, MAX_DEN};
 use second::draw::curve;
 use second::given::Given;
@@ -21,24 +23,44 @@ const INPUTS: usize = 256;
 /// machine does out of most of them.
 const TIMES: usize = 2;
 const ROUNDS: usize = 2_001;
+/// A measurement takes a few nanoseconds, so that a round has more of them; and so many different ones that
+/// the processor does not learn by heart which way each one branches.
+const MEASURED: usize = 4_096;
+const MEASURED_TIMES: usize = 2;
+/// Loads are drawn up to this either way, and spreads from zero.
+const LOAD_OHMS: f64 = 4_000.0;
+const SPREAD_OHMS: f64 = 4.0;
 
 fn main() -> ExitCode {
-    let mut rng = Rng::new(SEED);
-    let inputs: Vec<Input> = (0..INPUTS).map(|_| input(&mut rng)).collect();
-    println!(
-        "degree {MAX_DEGREE}, {INPUTS} inputs, {ROUNDS} rounds of {TIMES} times all inputs; the results' \
-         buffers are used again and not cleared"
-    );
-    let ended = [EVALUATE, SUBDIVIDE]
-        .iter()
-        .try_for_each(|operation| side_by_side(operation, &inputs));
-    match ended {
+    match curves().and_then(|()| measurements()) {
         Ok(()) => ExitCode::SUCCESS,
         Err(message) => {
             println!("FAILED: {message}");
             ExitCode::FAILURE
         }
     }
+}
+
+fn curves() -> Result<(), String> {
+    let mut rng = Rng::new(SEED);
+    let inputs: Vec<Input> = (0..INPUTS).map(|_| input(&mut rng)).collect();
+    println!(
+        "degree {MAX_DEGREE}, {INPUTS} inputs, {ROUNDS} rounds of {TIMES} times all inputs; the results' \
+         buffers are used again and not cleared"
+    );
+    side_by_side(&EVALUATE, &inputs, TIMES)?;
+    side_by_side(&SUBDIVIDE, &inputs, TIMES)
+}
+
+fn measurements() -> Result<(), String> {
+    let mut rng = Rng::new(SEED);
+    let spread: Vec<_> = (0..MEASURED).map(|_| with_spread(&mut rng)).collect();
+    let plain: Vec<_> = spread.iter().map(|[r, x, _]| [*r, *x]).collect();
+    let rounds = format!("{ROUNDS} rounds of {MEASURED_TIMES} times all loads");
+    println!("{MEASURED} measured loads with a spread, {rounds}");
+    side_by_side(&enclose::<WITH_SPREAD>(), &spread, MEASURED_TIMES)?;
+    println!("{MEASURED} plain measured loads, {rounds}");
+    side_by_side(&enclose::<PLAIN_LOAD>(), &plain, MEASURED_TIMES)
 }
 
 /// An accepted curve and an accepted parameter.
@@ -52,8 +74,16 @@ fn input(rng: &mut Rng) -> Input {
     }
 }
 
+/// An accepted load with a spread, in ohms with random digits.
+fn with_spread(rng: &mut Rng) -> Measured<WITH_SPREAD> {
+    // The drawn 32 bits as a number from -1 to just below 1, in all the digits that the ohms have room for.
+    let mut part = || f64::from(rng.draw() as i32) / 2_f64.powi(31);
+    let (r, x, spread) = (part(), part(), part().abs());
+    [LOAD_OHMS * r, LOAD_OHMS * x, SPREAD_OHMS * spread].map(|ohms| ohms as f32)
+}
+
 /// Whether both sides accept every input and give the same sides and the same flag.
-fn agree(operation: &Operation, inputs: &[Input]) -> bool {
+fn agree<I>(operation: &Operation<I>, inputs: &[I]) -> bool {
     let Operation { ours, plain, .. } = operation;
     inputs.iter().all(|input| {
         let mut buffers = Buffers::EMPTY;
@@ -63,7 +93,7 @@ fn agree(operation: &Operation, inputs: &[Input]) -> bool {
 }
 
 /// Times one operation on both sides, each going first in every other round.
-fn side_by_side(operation: &Operation, inputs: &[Input]) -> Result<(), String> {
+fn side_by_side<I>(operation: &Operation<I>, inputs: &[I], times: usize) -> Result<(), String> {
     let Operation { name, ours, plain } = operation;
     if !agree(operation, inputs) {
         return Err(format!("{name}: the results differ"));
@@ -71,11 +101,11 @@ fn side_by_side(operation: &Operation, inputs: &[Input]) -> Result<(), String> {
     let (mut plain_times, mut our_times, mut ratios) = (Vec::new(), Vec::new(), Vec::new());
     for round in 0..ROUNDS {
         let (plain_time, our_time) = if round % 2 == 0 {
-            let plain_time = timed(plain, inputs);
-            (plain_time, timed(ours, inputs))
+            let plain_time = timed(plain, inputs, times);
+            (plain_time, timed(ours, inputs, times))
         } else {
-            let our_time = timed(ours, inputs);
-            (timed(plain, inputs), our_time)
+            let our_time = timed(ours, inputs, times);
+            (timed(plain, inputs, times), our_time)
         };
         plain_times.push(plain_time);
         our_times.push(our_time);
@@ -83,22 +113,29 @@ fn side_by_side(operation: &Operation, inputs: &[Input]) -> Result<(), String> {
     }
     let [[_, plain, _], [_, ours, _], [low, ratio, high]] =
         [plain_times, our_times, ratios].map(quartiles);
+    let [plain, ours] = [plain, ours].map(shown);
     println!(
-        "{name:<10} plain {plain:>5.0} ns, ours {ours:>5.0} ns, ours/plain {ratio:.2} ({low:.2} to {high:.2})"
+        "{name:<10} plain {plain:>5} ns, ours {ours:>5} ns, ours/plain {ratio:.2} ({low:.2} to {high:.2})"
     );
     Ok(())
 }
 
+/// Nanoseconds as they are printed: a short time with its tenths, which count there.
+fn shown(nanoseconds: f64) -> String {
+    let decimals = usize::from(nanoseconds < 50.0);
+    format!("{nanoseconds:.decimals$}")
+}
+
 /// Nanoseconds for one call.
-fn timed(call: &Call, inputs: &[Input]) -> f64 {
+fn timed<I>(call: &Call<I>, inputs: &[I], times: usize) -> f64 {
     let mut buffers = Buffers::EMPTY;
     let begun = Instant::now();
-    for _ in 0..TIMES {
+    for _ in 0..times {
         for input in inputs {
             black_box((call.run)(black_box(input), black_box(&mut buffers)));
         }
     }
-    begun.elapsed().as_nanos() as f64 / (TIMES * inputs.len()) as f64
+    begun.elapsed().as_nanos() as f64 / (times * inputs.len()) as f64
 }
 
 /// The lower quartile, the median and the upper quartile.
@@ -122,6 +159,16 @@ mod tests {
             den: 2,
         });
         assert!(agree(&EVALUATE, &inputs) && agree(&SUBDIVIDE, &inputs));
+        let spread: Vec<_> = (0..MEASURED).map(|_| with_spread(&mut rng)).collect();
+        let plain: Vec<_> = spread.iter().map(|[r, x, _]| [*r, *x]).collect();
+        assert!(agree(&enclose::<WITH_SPREAD>(), &spread));
+        assert!(agree(&enclose::<PLAIN_LOAD>(), &plain));
+    }
+
+    /// Tenths for a call of a few nanoseconds, none for one of hundreds.
+    #[test]
+    fn shows_the_tenths_of_short_times() {
+        assert_eq!([7.84, 319.6].map(shown), ["7.8", "320"]);
     }
 
     #[test]
