@@ -1,5 +1,6 @@
 // Single-precision ohms by their bits: their tests, and the whole steps about them. Without the sign, bits are in the order of the sizes.
-// No float is computed with, so that a processor that takes subnormal numbers for zero, or rounds another way, answers alike.
+// No float is computed with, so that a processor that takes subnormal numbers for zero, or rounds another way, answers alike; each is
+// compared with itself once, since what is not a number has no bits in the proofs.
 ghost use mathlib.Core.Path.{_≡_};
 ghost use Prim.Native.Nat.{_≤_};
 ghost use lib.Dec.{T};

@@ -1,6 +1,7 @@
 -- The list of examples, computed as a whole.
 -- Assumes nothing.
 use mathlib.Core.Path.{refl}
+use lib.Ieee.{ofBits}
 use Rattle.rational.specs.Rounding.{floor, ceiling, quotient, divisible}
 use Rattle.rational.specs.Fraction.{_+ᶠ_, _*ᶠ_, _^ᶠ_, whole, complement}
 use Rattle.bernstein.specs.Affine.{affine, affineExact}
@@ -12,15 +13,14 @@ use Rattle.ledger.specs.Ledger.{parameter}
 use Rattle.search.specs.Box.{within, disjoint, inBox, apartFrom, isBox}
 use Rattle.search.specs.Walk.{stepAt, walked}
 use Rattle.search.specs.Search.{boxRefusal, searchRefusal, searched}
+use Rattle.bridge.specs.Value as bridge
+use Rattle.bridge.specs.Value.{finite, ohms, steps, stepsAbout, isFrom}
+use Rattle.bridge.specs.Bridge.{loadRect, spreadRect, loadRefusal, numberRefusal, sideRefusal, spreadRefusal, enclosed}
 use Rattle.curve.specs.Rect.{least, greatest, hullInterval, hull, inRange, endsInRange, sidesInRange, endsOrdered, sidesOrdered, affineInterval, affineRect, exactInterval, exactRect}
 use Rattle.curve.specs.Curve.{tabulate, pointsOf, loadOf, leftOf, rightOf, tableExact, elevatedPoint, elevatedOf, elevatedExact, elevationExact, hullTo, boundsOf}
 use Rattle.curve.specs.Refusals.{firstFailing, rangeRefusal, orderRefusal, curveRefusal, parameterRefusal, highestRefusal}
 use Rattle.curve.specs.Calls.{callRefusal, elevationRefusal, evaluated, subdivided, elevated, bounded}
 use Rattle.examples.specs.Shown.{resistancesFrom, resistancesShown}
-use lib.Ieee.{ofBits}
-use Rattle.bridge.specs.Value as bridge
-use Rattle.bridge.specs.Value.{finite, ohms, steps, stepsAbout, isFrom}
-use Rattle.bridge.specs.Bridge.{loadRect, spreadRect, loadRefusal, numberRefusal, sideRefusal, spreadRefusal, enclosed}
 use Rattle.examples.specs.Examples.{cardCurve, exactLoad, exactResistance, examples, Agree}
 
 pub agree : Agree
