@@ -85,7 +85,11 @@ units-limit bits = go (leb bits largest) refl
       | inr less ↦ le-leb (unitsOf bits) (2 ^ 163) (le-of-lt (units-below 141 bits less))
     ]
 
--- no units are no bits
+-- no units are no bits, and no bits no units
+pub no-units : unitsOf 0 ≡ 0
+unfolding unitsOf unitsBy
+no-units = refl
+
 pub units-zero : (bits : ℕ) → unitsOf bits ≡ 0 → bits ≡ 0
 unfolding unitsOf unitsBy
 units-zero bits h = go (bits / field) refl

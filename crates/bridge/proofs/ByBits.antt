@@ -20,9 +20,9 @@ use Rattle.rational.proofs.Quotient.{quotient-equal}
 use Rattle.curve.specs.Limits.{stepsPerOhm}
 use Rattle.curve.proofs.Tests.{true-of}
 use Rattle.bridge.specs.Value.{signed, maxOhms, finite, stepAt, stepsAbout, isFrom, isLoad, isSpread}
-use Rattle.bridge.specs.Inner.{sign, field, largest, unitsBy, unitsOf, sizeAbout}
+use Rattle.bridge.specs.Inner.{sign, field, largest, unitsOf, sizeAbout}
 use Rattle.bridge.proofs.Exact.{signed-times, from-value, step-value}
-use Rattle.bridge.proofs.Bits.{bits-value, units-limit, units-zero}
+use Rattle.bridge.proofs.Bits.{bits-value, units-limit, no-units, units-zero}
 use Rattle.bridge.proofs.Steps.{size-within, signed-within}
 
 -- ---- what is not finite
@@ -93,10 +93,7 @@ minus-zero-bits b from few =
     let rest : b - sign < sign = omega arith in
     let none = sym (mod-eq-sub-mod from ∙ mod-eq-of-lt rest) ∙ units-zero (b % sign) (eqb-true (unitsOf (b % sign)) 0 h) in
     eq-eqb b sign (omega arith))
-    (λ h. ap (λ (n : ℕ). eqb (unitsOf (n % sign)) 0) (eqb-true b sign h) ∙ no-units)
-  where
-    no-units : eqb (unitsOf 0) 0 ≡ true
-    no-units = unfold unitsOf in unfold unitsBy in refl
+    (λ h. ap (λ (n : ℕ). eqb (unitsOf (n % sign)) 0) (eqb-true b sign h) ∙ ap (λ (u : ℕ). eqb u 0) no-units)
 
 pub spread-bits : (b : ℕ) → b < 2 * sign → isSpread (ofBits binary32 b) ≡ (leb b largest || eqb b sign)
 spread-bits b few = by-field b small large

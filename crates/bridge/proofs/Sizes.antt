@@ -13,7 +13,7 @@ use mir.Val.{boolByte}
 use Rattle.rational.specs.Rounding.{Rounding, down, up, quotient, floor, ceiling}
 use Rattle.rational.proofs.Quotient.{quotient-equal}
 use Rattle.bridge.specs.Inner.{field, largest, step, unitsBy, unitsOf}
-use Rattle.bridge.proofs.Bits.{units-below, units-zero}
+use Rattle.bridge.proofs.Bits.{units-below, no-units, units-zero}
 
 -- a natural number rounded up: one taken off and added again
 pub up-less-one : (n d : ℕ) → quotient up (pos (suc n)) d ≡ pos (suc (n / d))
@@ -25,10 +25,6 @@ module _ (bits : ℕ) (few : bits < step) where
   pub small-low : quotient down (pos (unitsOf bits)) (2 ^ 139) ≡ pos 0
   unfolding quotient floor
   small-low = ap pos (div-eq-of-lt (units-below 117 bits few))
-
-  no-units : unitsOf 0 ≡ 0
-  unfolding unitsOf unitsBy
-  no-units = refl
 
   some : {n : ℕ} → suc n ≡ 0 → ⊥
   some e = omega arith
