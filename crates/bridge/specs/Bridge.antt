@@ -1,4 +1,4 @@
--- The answer of `enclose` for every measurement of the bridge: a refusal, no carrier, or a rectangle of whole steps.
+-- The answer of `enclose` for every measurement of the bridge (the paper's reading of it): a refusal, no carrier, or a rectangle of whole steps.
 -- Assumes nothing.
 use mathlib.Core.Bool.{cond}
 use Prim.Native.Nat.{ℕ}

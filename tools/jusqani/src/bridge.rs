@@ -19,11 +19,11 @@ pub enum Measurement {
 
 /// What the call found, as the header numbers it.
 const NO_CARRIER: u32 = 1;
-const ENCLOSED: u32 = 2;
+const RECTANGLE: u32 = 2;
 
 impl Measurement {
     /// The smallest rectangle of whole steps that holds the load, its low sides less and its high sides
-    /// plus the spread, rounded up to steps; none where there is no carrier.
+    /// plus the spread, which is by itself rounded up to steps; none where there is no carrier.
     #[inline]
     pub fn enclose(self) -> Result<Option<Rect>, Refusal> {
         match self {
@@ -48,7 +48,7 @@ fn enclose(ohms: &[f32]) -> Result<Option<Rect>, Refusal> {
     Refusal::check(raw::enclose(ohms, &mut rect, &mut found))?;
     match found {
         NO_CARRIER => Ok(None),
-        ENCLOSED => Ok(Some(rect.into())),
+        RECTANGLE => Ok(Some(rect.into())),
         _ => unreachable!("the call found {found}, which is neither 1 nor 2"),
     }
 }
