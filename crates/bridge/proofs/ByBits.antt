@@ -18,6 +18,7 @@ use Rattle.rational.proofs.Truth.{same-truth, and-both, both-and}
 use Rattle.rational.proofs.Order.{test-yes}
 use Rattle.rational.proofs.Quotient.{quotient-equal}
 use Rattle.curve.specs.Limits.{stepsPerOhm}
+use Rattle.curve.specs.Rect.{end}
 use Rattle.curve.proofs.Tests.{true-of}
 use Rattle.bridge.specs.Value.{signed, maxOhms, finite, stepAt, stepsAbout, isFrom, isLoad, isSpread}
 use Rattle.bridge.specs.Inner.{sign, field, largest, unitsOf, sizeAbout}
@@ -62,7 +63,7 @@ two-sided s u most =
     (λ h. let (from, to) = signed-within s u most (leb-true u most h) in
     both-and (true-of (leZ (negℤ (pos most)) (signed s u)) (from .le)) (true-of (leZ (signed s u) (pos most)) (to .le)))
 
-pub load-bits : (b : ℕ) → isLoad (ofBits binary32 b) ≡ leb (b % sign) largest
+load-bits : (b : ℕ) → isLoad (ofBits binary32 b) ≡ leb (b % sign) largest
 load-bits b = by-field b small large
   where
     small : b % sign / field < ones binary32 → isLoad (ofBits binary32 b) ≡ leb (b % sign) largest
@@ -95,7 +96,7 @@ minus-zero-bits b from few =
     eq-eqb b sign (omega arith))
     (λ h. ap (λ (n : ℕ). eqb (unitsOf (n % sign)) 0) (eqb-true b sign h) ∙ ap (λ (u : ℕ). eqb u 0) no-units)
 
-pub spread-bits : (b : ℕ) → b < 2 * sign → isSpread (ofBits binary32 b) ≡ (leb b largest || eqb b sign)
+spread-bits : (b : ℕ) → b < 2 * sign → isSpread (ofBits binary32 b) ≡ (leb b largest || eqb b sign)
 spread-bits b few = by-field b small large
   where
     by-sign : (s : Bool) → leb sign b ≡ s → (leZ (pos 0) (signed s (unitsOf (b % sign))) && leZ (signed s (unitsOf (b % sign))) (pos (2 ^ 163))) ≡ (leb b largest || eqb b sign)
@@ -126,7 +127,7 @@ spread-bits b few = by-field b small large
 
 -- ---- the steps
 
-pub step-bits : (b : ℕ) → b % sign / field < ones binary32 → (r : Rounding) →
+step-bits : (b : ℕ) → b % sign / field < ones binary32 → (r : Rounding) →
     stepAt r (ofBits binary32 b) ≡ quotient r (signed (leb sign b) (unitsOf (b % sign))) (2 ^ 139)
 step-bits b h r =
     let s = leb sign b in
@@ -135,10 +136,16 @@ step-bits b h r =
     ∙ quotient-equal r (2 ^ low binary32) (2 ^ 139) (pow-pos (low binary32)) (pow-pos 139) (signed s (u * stepsPerOhm)) (signed s u)
     (signed-times s (u * stepsPerOhm) (2 ^ 139) ∙ ap (signed s) (mul-assoc u stepsPerOhm (2 ^ 139)) ∙ sym (signed-times s u (2 ^ low binary32)))
 
+-- the other way to round
+abbrev pub opposite : Rounding → Rounding
+opposite down = up
+opposite up = down
+
 -- below zero, the size rounded the other way
-pub mirrored : (n d : ℕ) → (quotient down (negℤ (pos n)) d ≡ negℤ (quotient up (pos n) d)) × (quotient up (negℤ (pos n)) d ≡ negℤ (quotient down (pos n) d))
+mirrored : (o : Rounding) (n d : ℕ) → quotient o (negℤ (pos n)) d ≡ negℤ (quotient (opposite o) (pos n) d)
 unfolding quotient ceiling
-mirrored n d = (sym (negℤ-negℤ _), ap (λ (z : ℤ). negℤ (quotient down z d)) (negℤ-negℤ (pos n)))
+mirrored down n d = sym (negℤ-negℤ _)
+mirrored up n d = ap (λ (z : ℤ). negℤ (quotient down z d)) (negℤ-negℤ (pos n))
 
 -- ---- a number that its format holds
 
@@ -163,6 +170,12 @@ module _ (x : Float) (fit : fits binary32 x ≡ true) where
         below : toBits binary32 x % sign < ones binary32 * field
         below = omega (arith, load-few)
 
+    turned : sign ≤ toBits binary32 x → (o : Rounding) → stepAt o x ≡ negℤ (quotient (opposite o) (pos (unitsOf (toBits binary32 x % sign))) (2 ^ 139))
+    turned h o =
+        step-of-load o
+        ∙ ap (λ (s : Bool). quotient o (signed s (unitsOf (toBits binary32 x % sign))) (2 ^ 139)) (le-leb sign (toBits binary32 x) h)
+        ∙ mirrored o (unitsOf (toBits binary32 x % sign)) (2 ^ 139)
+
     -- its steps are those of its size, and below zero the same turned about
     pub about-above : toBits binary32 x < sign → sizeAbout (toBits binary32 x % sign) ≡ stepsAbout x
     unfolding sizeAbout stepsAbout
@@ -171,13 +184,10 @@ module _ (x : Float) (fit : fits binary32 x ≡ true) where
         same : (r : Rounding) → stepAt r x ≡ quotient r (pos (unitsOf (toBits binary32 x % sign))) (2 ^ 139)
         same r = step-of-load r ∙ ap (λ (s : Bool). quotient r (signed s (unitsOf (toBits binary32 x % sign))) (2 ^ 139)) (lt-leb sign (toBits binary32 x) h)
 
-    pub about-below : sign ≤ toBits binary32 x →
-        (stepAt down x ≡ negℤ (sizeAbout (toBits binary32 x % sign) .high)) × (stepAt up x ≡ negℤ (sizeAbout (toBits binary32 x % sign) .low))
+    pub about-below : sign ≤ toBits binary32 x → (o : Rounding) → stepAt o x ≡ negℤ (end (opposite o) (sizeAbout (toBits binary32 x % sign)))
     unfolding sizeAbout
-    about-below h = let (low, high) = mirrored (unitsOf (toBits binary32 x % sign)) (2 ^ 139) in (same down ∙ low, same up ∙ high)
-      where
-        same : (r : Rounding) → stepAt r x ≡ quotient r (negℤ (pos (unitsOf (toBits binary32 x % sign)))) (2 ^ 139)
-        same r = step-of-load r ∙ ap (λ (s : Bool). quotient r (signed s (unitsOf (toBits binary32 x % sign))) (2 ^ 139)) (le-leb sign (toBits binary32 x) h)
+    about-below h down = turned h down
+    about-below h up = turned h up
 
 -- what differs from itself is not a number, and no test takes it
 pub not-itself : (least most : ℤ) (x : Float) → ne x x ≡ true → false ≡ isFrom least most x

@@ -37,11 +37,11 @@ rectAt zs at =
 unfoldable pub curveFrom : ℕ → List ℤ → Curve
 curveFrom degree zs = curveOf degree (λ k. rectAt zs (4 * k))
 
--- the bridge's ohms: none are no carrier, up to two a load, more a load with a spread, of which three are read
--- a number that the list does not have is not a number, which is refused
+-- the bridge's number at an index; one that the list does not have is not a number, which is refused
 abbrev pub ohmsAt : List Float → ℕ → Float
 ohmsAt xs k = getD xs k nan
 
+-- the measurement with these numbers: none are no carrier, up to two a load, more a load with a spread, of which three are read
 unfoldable pub measurementFrom : List Float → Measurement
 measurementFrom xs =
     cond (eqb (length xs) 0) NoCarrier
