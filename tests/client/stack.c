@@ -201,9 +201,11 @@ static void take_card(const char *path)
     }
     card_length = read_input(card);
     if (jusqani_read_card(card, card_length, curve, MAX_CURVE) == 0) {
-        /* A corner of rectangle 0: the search goes down to the piece at the curve's start. */
-        limits[0] = limits[1] = curve[1];
-        limits[2] = limits[3] = curve[3];
+        /* The step at a corner of rectangle 0: the search goes down to the piece at the curve's start. */
+        limits[0] = curve[1];
+        limits[1] = curve[1] + 1;
+        limits[2] = curve[3];
+        limits[3] = curve[3] + 1;
     }
 }
 

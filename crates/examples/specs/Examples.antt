@@ -1,4 +1,4 @@
--- Document 01's examples that carry a star, and those of document 02's requests: what the definitions answer beside what the documents say.
+-- Document 01's examples that carry a star, as document 02 restates them, and those of document 02's requests: what the definitions answer beside what the documents say.
 -- Assumes nothing.
 use mathlib.Core.Path.{_≡_}
 use mathlib.Core.List.{List, [], _∷_, map}
@@ -15,7 +15,7 @@ use Rattle.curve.specs.Calls.{evaluated, subdivided, elevated, bounded}
 use Rattle.card_text.specs.Reading.{readCard}
 use Rattle.ledger.specs.Ordinary.{exactSide}
 use Rattle.ledger.specs.Ledger.{parameter}
-use Rattle.search.specs.Verdict.{outside, spent, undecided}
+use Rattle.search.specs.Verdict.{inside, outside, spent, undecided}
 use Rattle.search.specs.Search.{searched}
 use Rattle.bridge.specs.declared.Measurement.the-variants.{NoCarrier, Load, LoadWithSpread}
 use Rattle.bridge.specs.Bridge.{noCarrier, rectangle, enclosed}
@@ -55,9 +55,20 @@ coordinatesApart = line (pos 0) (pos 0) (pos 4) (pos 1)
 unfoldable pub exactResistance : Frac
 exactResistance = exactSide coordinatesApart resistance down (parameter 1 2)
 
--- the walk's box: resistance 0 to 2, reactance 0 to 0
+-- resistance values 0, 4, reactance values 0, 0
+abbrev pub zeroToFour : Curve
+zeroToFour = values 1 (pos 0 ∷ pos 4 ∷ [])
+
+-- a box: resistance and reactance, each from a low limit to the first value not allowed
+abbrev pub box : ℤ → ℤ → ℤ → ℤ → Rect
+box r r′ x x′ = record { resistance = record { low = r; high = r′ }; reactance = record { low = x; high = x′ } }
+
+-- the box 0 to 2 and 0 to 1, and the widest one
 abbrev pub smallBox : Rect
-smallBox = record { resistance = record { low = pos 0; high = pos 2 }; reactance = record { low = pos 0; high = pos 0 } }
+smallBox = box (pos 0) (pos 2) (pos 0) (pos 1)
+
+abbrev pub widestBox : Rect
+widestBox = box (negsuc 16777215) (pos 16777216) (negsuc 16777215) (pos 16777216)
 
 -- single-precision ohms by their bits
 abbrev pub single : ℕ → Float
@@ -127,21 +138,30 @@ examples =
     ∷ (refusalShown (evaluated cardCurve 1 65537 .refusal) gives pos 4 ∷ pos 0 ∷ [])
     ∷ (refusalShown (evaluated cardCurve 1 0 .refusal) gives pos 4 ∷ pos 0 ∷ [])
     ∷ (refusalShown (evaluated cardCurve 8 7 .refusal) gives pos 5 ∷ pos 0 ∷ [])
-    -- resistance values 0, 4, box 0 to 2 and 0 to 0: depth 2, budget 5 gives Outside, depth 2, index 3, count 5; budget 4 gives Spent, count 4
-    ∷ (verdictShown (searched (values 1 (pos 0 ∷ pos 4 ∷ [])) smallBox 2 5 .verdict) gives pos outside ∷ pos 2 ∷ pos 3 ∷ pos 5 ∷ [])
-    ∷ (verdictShown (searched (values 1 (pos 0 ∷ pos 4 ∷ [])) smallBox 2 4 .verdict) gives pos spent ∷ pos 0 ∷ pos 0 ∷ pos 4 ∷ [])
-    -- the same at depth 1: Undecided, depth 1, index 1, count 3
-    ∷ (verdictShown (searched (values 1 (pos 0 ∷ pos 4 ∷ [])) smallBox 1 5 .verdict) gives pos undecided ∷ pos 1 ∷ pos 1 ∷ pos 3 ∷ [])
+    -- resistance values 0, 4, box 0 to 2 and 0 to 1: depth 2, budget 5 gives Outside, depth 1, index 1, count 5; budget 4 gives Spent, count 4
+    ∷ (verdictShown (searched zeroToFour smallBox 2 5 .verdict) gives pos outside ∷ pos 1 ∷ pos 1 ∷ pos 5 ∷ [])
+    ∷ (verdictShown (searched zeroToFour smallBox 2 4 .verdict) gives pos spent ∷ pos 0 ∷ pos 0 ∷ pos 4 ∷ [])
+    -- the same at depth 1: Outside, depth 1, index 1, count 3
+    ∷ (verdictShown (searched zeroToFour smallBox 1 5 .verdict) gives pos outside ∷ pos 1 ∷ pos 1 ∷ pos 3 ∷ [])
+    -- box 0 to 5 and 0 to 1: Inside, count 1; box 0 to 4 and 0 to 1, whose high resistance the curve reaches: Undecided at depth 0
+    ∷ (verdictShown (searched zeroToFour (box (pos 0) (pos 5) (pos 0) (pos 1)) 2 5 .verdict) gives pos inside ∷ pos 0 ∷ pos 0 ∷ pos 1 ∷ [])
+    ∷ (verdictShown (searched zeroToFour (box (pos 0) (pos 4) (pos 0) (pos 1)) 0 5 .verdict) gives pos undecided ∷ pos 0 ∷ pos 0 ∷ pos 1 ∷ [])
+    -- a box with low equal to high is a 7, in either coordinate
+    ∷ (refusalShown (searched zeroToFour (box (pos 2) (pos 2) (pos 0) (pos 1)) 2 5 .refusal) gives pos 7 ∷ pos 0 ∷ [])
+    ∷ (refusalShown (searched zeroToFour (box (pos 0) (pos 5) (pos 0) (pos 0)) 2 5 .refusal) gives pos 7 ∷ pos 0 ∷ [])
+    -- the widest box does not have 16,384 ohms: Outside, at once; a step less it has
+    ∷ (verdictShown (searched (values 1 (pos 16777216 ∷ pos 16777216 ∷ [])) widestBox 12 8191 .verdict) gives pos outside ∷ pos 0 ∷ pos 0 ∷ pos 1 ∷ [])
+    ∷ (verdictShown (searched (values 1 (negsuc 16777215 ∷ pos 16777215 ∷ [])) widestBox 12 8191 .verdict) gives pos inside ∷ pos 0 ∷ pos 0 ∷ pos 1 ∷ [])
     -- the exact flag: values 0, 4 at 1/2 are lit; values 1, 0, 3 at 1/2 dark, read and cut
-    ∷ (flagShown (evaluated (values 1 (pos 0 ∷ pos 4 ∷ [])) 1 2 .exact) gives pos 1 ∷ [])
+    ∷ (flagShown (evaluated zeroToFour 1 2 .exact) gives pos 1 ∷ [])
     ∷ (flagShown (evaluated threeValues 1 2 .exact) gives pos 0 ∷ [])
     ∷ (flagShown (subdivided threeValues 1 2 .exact) gives pos 0 ∷ [])
     -- values 0, 1 raised are dark, values 0, 2 raised lit
     ∷ (flagShown (elevated (values 1 (pos 0 ∷ pos 1 ∷ [])) .exact) gives pos 0 ∷ [])
     ∷ (flagShown (elevated (values 1 (pos 0 ∷ pos 2 ∷ [])) .exact) gives pos 1 ∷ [])
     -- a refused call is dark, here by 4, 5 and 6
-    ∷ (flagShown (evaluated (values 1 (pos 0 ∷ pos 4 ∷ [])) 1 0 .exact) gives pos 0 ∷ [])
-    ∷ (flagShown (subdivided (values 1 (pos 0 ∷ pos 4 ∷ [])) 8 7 .exact) gives pos 0 ∷ [])
+    ∷ (flagShown (evaluated zeroToFour 1 0 .exact) gives pos 0 ∷ [])
+    ∷ (flagShown (subdivided zeroToFour 8 7 .exact) gives pos 0 ∷ [])
     ∷ (flagShown (elevated (values 8 []) .exact) gives pos 0 ∷ [])
     -- a reading can be dark and its load exact in a coordinate: here reactance was rounded, and resistance, 2, is exact
     ∷ (flagShown (evaluated coordinatesApart 1 2 .exact) gives pos 0 ∷ [])

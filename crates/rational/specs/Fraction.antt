@@ -17,6 +17,7 @@ infixl 6 _+ᶠ_
 infixl 7 _*ᶠ_
 infixr 8 _^ᶠ_
 infix 5 _≤ᶠ_
+infix 5 _<ᶠ_
 unfoldable pub _+ᶠ_ : Frac → Frac → Frac
 a +ᶠ b =
     record {
@@ -30,6 +31,10 @@ a *ᶠ b = record { upper = a .upper *ℤ b .upper; lower = a .lower * b .lower;
 
 pub record _≤ᶠ_ (a b : Frac) : Type 0 where
   pub crosswise : (a .upper *ℤ pos (b .lower)) ≤ℤ (b .upper *ℤ pos (a .lower))
+
+-- strictly below: not at or above
+abbrev pub _<ᶠ_ : Frac → Frac → Type 0
+a <ᶠ b = b ≤ᶠ a → ⊥
 
 pub record Equal (a b : Frac) : Type 0 where
   pub crosswise : a .upper *ℤ pos (b .lower) ≡ b .upper *ℤ pos (a .lower)

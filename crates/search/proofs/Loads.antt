@@ -6,34 +6,32 @@ use native.Mathlib.Nat.{mul-zero}
 use native.Mathlib.Omega.{arith}
 use lib.IntN.{ℤ, pos}
 use Rattle.rational.specs.Rounding.{Rounding, down, up}
-use Rattle.rational.specs.Fraction.{Frac, whole}
+use Rattle.rational.specs.Fraction.{Frac}
 use Rattle.rational.proofs.Rational.{ℚ, rat, embed}
-use Rattle.rational.proofs.RationalOrder.{_≤ℚ_, ≤ℚ-trans, ≤ᶠ-of, ≤ℚ-of, embed-mono}
+use Rattle.rational.proofs.RationalOrder.{_≤ℚ_, ≤ℚ-trans, embed-mono}
 use Rattle.bernstein.specs.DeCasteljau.{value}
 use Rattle.bernstein.specs.Bernstein.{bernstein}
 use Rattle.bernstein.proofs.Convex.{convex-parameter, table-least, table-most, order-excess, excess-order}
 use Rattle.bernstein.proofs.Curve.{curve, bernstein-curve}
 use Rattle.bernstein.proofs.Rounded.{Near}
+use Rattle.curve.specs.declared.Interval.{Interval}
 use Rattle.curve.specs.declared.Rect.{Rect}
 use Rattle.curve.specs.declared.Curve.{Curve}
-use Rattle.curve.specs.Rect.{Coordinate, side, Outward, Inside, Bounded}
+use Rattle.curve.specs.Rect.{Coordinate, along, end, side, Outward, Bounded}
 use Rattle.curve.specs.Curve.{point}
 use Rattle.curve.specs.Calls.{bounded}
 use Rattle.curve.proofs.BoundsLeast.{least-bounds}
 use Rattle.ledger.specs.Ordinary.{Ordinary, InsideOf, loadAt}
 use Rattle.ledger.proofs.Evaluation.{inward, inward-none, bounded-near, near-bounded}
-use Rattle.search.specs.Promises.{LoadIn}
 use Rattle.search.proofs.Dyadic.{Along}
 use Rattle.search.proofs.Laid.{Laid}
 
--- a bound further out is a bound
-pub bounded-outward : (r : Rounding) (v : Frac) (s s′ : ℤ) → Bounded r v s → Outward r s s′ → Bounded r v s′
-unfolding embed
-bounded-outward down v s s′ b h = ≤ᶠ-of (whole s′) v (≤ℚ-trans (embed-mono h) (≤ℚ-of b))
-bounded-outward up v s s′ b h = ≤ᶠ-of v (whole s′) (≤ℚ-trans (≤ℚ-of b) (embed-mono h))
+-- a value that lies in an interval, and a load that lies in a rectangle, edges included
+abbrev pub Spanned : Interval → Frac → Type 0
+Spanned i v = (r : Rounding) → Bounded r v (end r i)
 
-pub load-outward : (o : Ordinary) (t : Frac) (p q : Rect) → LoadIn o p t → Inside p q → LoadIn o q t
-load-outward o t p q l h = record { at = λ x r. bounded-outward r (loadAt o x t) (side x r p) (side x r q) (l .at x r) (h .at x r) }
+abbrev pub LoadSpanned : Ordinary → Rect → Frac → Type 0
+LoadSpanned o p t = (x : Coordinate) → Spanned (along x p) (loadAt o x t)
 
 near-outward : (r : Rounding) (s s′ : ℤ) (y : ℚ) → Near (inward r) 0 s y → Outward r s s′ → Near (inward r) 0 s′ y
 near-outward down s s′ y n h = order-excess (≤ℚ-trans (embed-mono h) (excess-order n))
@@ -71,5 +69,5 @@ module _ (c : Curve) (d i : ℕ) (piece : Curve) (laid : Laid c d i piece) (o : 
       subst (Near (inward r) 0 (side x r (bounded piece .rect))) (load-is x)
       (curve-near r (side x r (bounded piece .rect)) (laid .stretch .move (λ j. rat (o .control x j))) (piece .degree) (at .parameter) (at .least) (at .most) (moved-near x r))
 
-  pub load-in-span : LoadIn o (bounded piece .rect) t
-  load-in-span = record { at = λ x r. near-bounded r (loadAt o x t) (side x r (bounded piece .rect)) (span-holds x r) }
+  pub load-in-span : LoadSpanned o (bounded piece .rect) t
+  load-in-span x r = near-bounded r (loadAt o x t) (side x r (bounded piece .rect)) (span-holds x r)

@@ -3,12 +3,12 @@
 use mathlib.Core.Path.{_≡_}
 use mathlib.Core.Bool.{true, false}
 use Prim.Native.Nat.{ℕ, _+_, _-_, _≤_, _<_, _^_}
-use lib.IntN.{pos}
-use Rattle.rational.specs.Rounding.{Rounding}
-use Rattle.rational.specs.Fraction.{Frac, whole, _≤ᶠ_}
+use lib.IntN.{ℤ, pos}
+use Rattle.rational.specs.Rounding.{Rounding, down, up}
+use Rattle.rational.specs.Fraction.{Frac, whole, _≤ᶠ_, _<ᶠ_}
 use Rattle.curve.specs.declared.Rect.{Rect}
 use Rattle.curve.specs.declared.Curve.{Curve}
-use Rattle.curve.specs.Rect.{Coordinate, side, Bounded}
+use Rattle.curve.specs.Rect.{Coordinate, side}
 use Rattle.curve.specs.Curve.{SameCurve}
 use Rattle.curve.specs.Calls.{bounded}
 use Rattle.ledger.specs.Ordinary.{Ordinary, InsideOf, loadAt}
@@ -76,9 +76,14 @@ OutsideNames =
 
 -- ---- what the answers mean for ordinary curves
 
--- the load at t lies in the box, edges included
+-- a value that a side of a box allows: at or above a low one, strictly below a high one
+abbrev pub Allowed : Rounding → Frac → ℤ → Type 0
+Allowed down v s = whole s ≤ᶠ v
+Allowed up v s = v <ᶠ whole s
+
+-- the load at t lies in the box
 pub record LoadIn (o : Ordinary) (box : Rect) (t : Frac) : Type 0 where
-  pub at : (x : Coordinate) (r : Rounding) → Bounded r (loadAt o x t) (side x r box)
+  pub at : (x : Coordinate) (r : Rounding) → Allowed r (loadAt o x t) (side x r box)
 
 -- t lies from a to b, both included
 pub record Between (a b t : Frac) : Type 0 where

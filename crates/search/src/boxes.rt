@@ -1,22 +1,22 @@
-// How a rectangle lies to a box, and the check of a box by itself.
+// How a rectangle lies to a box, and the check of a box by itself. A box's low sides lie inside it, its high sides outside.
 ghost use mathlib.Core.Path.{_≡_};
-ghost use Rattle.search.specs.Box.{within, disjoint, inBox, apartFrom, isBox};
+ghost use Rattle.search.specs.Box.{within, disjoint, inBox, apartFrom, areLimits, isBox};
 use curve::Interval;
 use curve::Rect;
 
-fn interval_within(i: Interval, j: Interval) -> bool
-    ensures { λ r. ⌜ r ≡ within i j ⌝ }
+fn interval_within(span: Interval, limits: Interval) -> bool
+    ensures { λ r. ⌜ r ≡ within span limits ⌝ }
 {
-    j.low <= i.low && i.high <= j.high
+    limits.low <= span.low && span.high < limits.high
 }
 
-fn intervals_disjoint(i: Interval, j: Interval) -> bool
-    ensures { λ r. ⌜ r ≡ disjoint i j ⌝ }
+fn intervals_disjoint(span: Interval, limits: Interval) -> bool
+    ensures { λ r. ⌜ r ≡ disjoint span limits ⌝ }
 {
-    i.high < j.low || j.high < i.low
+    span.high < limits.low || limits.high <= span.low
 }
 
-// Whether the span lies in the box, edges included.
+// Whether the span lies in the box.
 pub fn in_box(span: Rect, limits: Rect) -> bool
     ensures { λ r. ⌜ r ≡ inBox span limits ⌝ }
 {
@@ -32,9 +32,15 @@ pub fn apart_from(span: Rect, limits: Rect) -> bool
         || intervals_disjoint(span.reactance, limits.reactance)
 }
 
-// Whether the box's sides are in range and in order.
+fn are_limits(limits: Interval) -> bool
+    ensures { λ r. ⌜ r ≡ areLimits limits ⌝ }
+{
+    curve::ends_in_range(limits) && limits.low < limits.high
+}
+
+// Whether the box's sides are in range, and each low one is below its high one.
 pub fn is_box(limits: Rect) -> bool
     ensures { λ r. ⌜ r ≡ isBox limits ⌝ }
 {
-    curve::sides_in_range(limits) && curve::sides_ordered(limits)
+    are_limits(limits.resistance) && are_limits(limits.reactance)
 }

@@ -1,4 +1,4 @@
-// The walk over a box: whether every load of a curve lies in the box, found by cutting the curve into pieces. The box is called `limits`.
+// The walk over a box: whether every load of a curve lies in the box, found by cutting the curve into pieces. The box is called `limits`; its low sides lie inside it, its high sides outside.
 // The call takes any record and any numbers, answers a refusal for bad input, and equals its definition in specs/Search.antt.
 ghost use mathlib.Core.Path.{_≡_};
 ghost use Rattle.search.specs.Search.{boxRefusal, searchRefusal, searched};

@@ -46,7 +46,8 @@ pub struct Interval {
     pub high: i32,
 }
 
-/// A load known within margins, or the relay limits of a search.
+/// A load known within margins, both ends included; or the relay limits of a search, whose high sides are the
+/// first values not allowed.
 #[derive(Clone, Copy, PartialEq, Eq, Debug, Default)]
 pub struct Rect {
     pub resistance: Interval,
@@ -131,9 +132,9 @@ pub struct Elevation {
 /// What a search over a box found, with the number of pieces looked at.
 #[derive(Clone, Copy, PartialEq, Eq, Debug)]
 pub enum Verdict {
-    /// The curve stays in the box.
+    /// Every load lies in the box: at or above its low sides and strictly below its high sides.
     Inside { count: u32 },
-    /// The curve has no point in the box on this piece's stretch.
+    /// No load lies in the box on this piece's stretch.
     Outside { depth: u32, index: u32, count: u32 },
     /// The budget was used up before all was decided.
     Spent { count: u32 },

@@ -131,26 +131,31 @@ fn refuses_a_measured_load_along_the_limits() {
 #[test]
 fn searches_a_box() {
     let curve = values(&[0, 4]);
-    let limits = Rect::from([0, 2, 0, 0]);
-    let outside = Verdict::Outside {
-        depth: 2,
-        index: 3,
-        count: 5,
+    let limits = Rect::from([0, 2, 0, 1]);
+    let (depth, index) = (1, 1);
+    let outside = |count| Verdict::Outside {
+        depth,
+        index,
+        count,
     };
-    assert_eq!(curve.search(limits, 2, 5), Ok(outside));
+    assert_eq!(curve.search(limits, 2, 5), Ok(outside(5)));
     assert_eq!(curve.search(limits, 2, 4), Ok(Verdict::Spent { count: 4 }));
-    let undecided = Verdict::Undecided {
-        depth: 1,
-        index: 1,
-        count: 3,
-    };
-    assert_eq!(curve.search(limits, 1, 5), Ok(undecided));
-    let whole = Rect::from([0, 4, 0, 0]);
+    assert_eq!(curve.search(limits, 1, 5), Ok(outside(3)));
+    let whole = Rect::from([0, 5, 0, 1]);
     assert_eq!(
         curve.search(whole, 12, 8191),
         Ok(Verdict::Inside { count: 1 })
     );
-    assert_eq!(curve.search([2, 0, 0, 0].into(), 2, 5), refused(7, 0));
+    // At the high side a load is no longer in the box.
+    let undecided = Verdict::Undecided {
+        depth: 0,
+        index: 0,
+        count: 1,
+    };
+    assert_eq!(curve.search([0, 4, 0, 1].into(), 0, 5), Ok(undecided));
+    assert_eq!(curve.search([2, 0, 0, 1].into(), 2, 5), refused(7, 0));
+    assert_eq!(curve.search([2, 2, 0, 1].into(), 2, 5), refused(7, 0));
+    assert_eq!(curve.search([0, 5, 0, 0].into(), 2, 5), refused(7, 0));
 }
 
 #[test]

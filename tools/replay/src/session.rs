@@ -171,7 +171,7 @@ mod tests {
         );
         assert_eq!(numbers(&mut session, Call::Bounds), [0, 0, 3, -3, 2]);
         let search = Call::Search {
-            limits: [0, 3, -3, 2].into(),
+            limits: [0, 4, -3, 3].into(),
             depth: 12,
             budget: 1,
         };

@@ -60,7 +60,7 @@ fn expect(output: &Output, status: i32, stdout: &str, stderr: &str) {
 }
 
 const AT_THE_LAST_CARD: &str =
-    "replay: standard input, line 36, column 1: the input ends, and ten bytes of a number are due here\n";
+    "replay: standard input, line 37, column 1: the input ends, and ten bytes of a number are due here\n";
 
 #[test]
 fn answers_the_sample_in_pieces_of_any_size() {

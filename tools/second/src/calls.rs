@@ -1,11 +1,13 @@
 //! The five calls on a curve beside the model.
 
-use crate::coverage::{Line, Ohm, Row};
-use crate::door::{curve_length, FOUR, MODEL};
+use crate::coverage::{Line, NoBox, Ohm, Row};
+use crate::door::{curve_length, given_limits, FOUR, MODEL};
 use crate::given::Given;
 use crate::lent::{Compared, Lent, LentNumber, BEHIND};
-use crate::model::{Flagged, Parameter, MAX_DEGREE, MAX_SIDE};
-use crate::search::Search;
+use crate::model::{
+    low_above_high, out_of_range, Flagged, Parameter, Rectangle, MAX_DEGREE, MAX_SIDE,
+};
+use crate::search::{have_no_common_point, is_empty, lies_in, Search};
 use crate::trial::{Counted, Outcome, Trial, SPARE};
 use std::cmp::Ordering;
 
@@ -38,6 +40,9 @@ const SEARCH: Counted = Counted {
     numbers: Line::SearchNumbers,
     lengths: &[Line::SearchVerdict],
 };
+
+/// The refusal of a box.
+const NO_BOX: u32 = 7;
 
 /// The exact flag of a call that rounded nothing.
 const EXACT: u32 = 1;
@@ -175,13 +180,44 @@ impl Trial<'_> {
         let came = (self.door.search)(degree, sides, limits, depth, budget, verdict.came());
         let input = || format!("{given}\nlimits {limits:?}, depth {depth}, budget {budget}");
         let outcome = self.finish(&SEARCH, [expected, came], FOUR, &[&verdict], input)?;
-        if outcome.is_ok() {
-            self.count_given(given);
-            self.tally.cover(Line::SearchLimits, lent);
-            self.tally.cover(Line::SearchDepth, depth as usize);
-            self.count_verdict(verdict.left());
+        let limits = given_limits(limits);
+        match outcome {
+            Ok(()) => {
+                self.count_given(given);
+                self.tally.cover(Line::SearchLimits, lent);
+                self.tally.cover(Line::SearchDepth, depth as usize);
+                self.count_edges(given, &limits);
+                self.count_verdict(verdict.left());
+                self.try_verdict(given, &limits, verdict.left())
+            }
+            Err(number) => {
+                if number == NO_BOX {
+                    self.tally.cover(Line::NoBoxLimits, lent);
+                    self.tally.cover(Line::NoBoxes, no_box(&limits) as usize);
+                }
+                Ok(())
+            }
         }
-        Ok(())
+    }
+
+    /// Counts the sides of a box that decide how the curve's bounds lie to it: were one a step higher, they
+    /// would lie otherwise.
+    fn count_edges(&mut self, given: &Given, limits: &Rectangle) {
+        let span = given.curve().bounds().expect("an accepted curve");
+        let lies = |limits: &Rectangle| {
+            let apart = have_no_common_point(&span, limits);
+            (lies_in(&span, limits), apart)
+        };
+        for side in 0..FOUR {
+            let mut higher = *limits;
+            higher[side] += 1;
+            if lies(limits) != lies(&higher) {
+                // Bounds that end there lie across the box's edge.
+                let ends = lies(limits) == (false, false);
+                self.tally
+                    .cover(Line::BoxEdges, 2 * side + usize::from(ends));
+            }
+        }
     }
 
     fn count_verdict(&mut self, verdict: &[u32]) {
@@ -225,5 +261,16 @@ impl Trial<'_> {
             Ordering::Greater => 2,
         };
         self.tally.cover(Line::SidesLent, lent);
+    }
+}
+
+/// Why limits that are refused are no box.
+fn no_box(limits: &Rectangle) -> NoBox {
+    match is_empty(limits) {
+        _ if out_of_range(limits) => NoBox::OutOfRange,
+        _ if low_above_high(limits) => NoBox::Crossed,
+        [true, false] => NoBox::NoResistance,
+        [false, true] => NoBox::NoReactance,
+        _ => NoBox::Neither,
     }
 }

@@ -5,6 +5,7 @@ use crate::ledger::Entry;
 use crate::model::{Curve, Rectangle};
 use crate::natural::{Integer, Natural};
 use crate::rng::Rng;
+use std::cmp::Ordering;
 
 /// An ordinary Bézier curve inside a curve's rectangles (the paper's ordinary curve): its control
 /// points' coordinates are these numbers over PARTS.
@@ -87,12 +88,22 @@ impl Bernstein {
 
     /// Whether both coordinates of the ordinary curve's load lie within the sides, edges included.
     pub fn load_within(&self, ordinary: &Ordinary, sides: &Rectangle) -> bool {
-        let within = |points: &[i64], low: i64, high: i64| {
-            let load = self.sum(points.iter().copied());
-            self.number(PARTS * low).at_most(&load) && load.at_most(&self.number(PARTS * high))
-        };
-        within(&ordinary.resistances, sides[0], sides[1])
-            && within(&ordinary.reactances, sides[2], sides[3])
+        let places = self.load_beside(ordinary, sides);
+        let within = |low: Ordering, high: Ordering| low.is_ge() && high.is_le();
+        within(places[0], places[1]) && within(places[2], places[3])
+    }
+
+    /// How the ordinary curve's load lies to each of the sides: below it, at it or above it.
+    pub fn load_beside(&self, ordinary: &Ordinary, sides: &Rectangle) -> [Ordering; 4] {
+        let [resistance, reactance] = [&ordinary.resistances, &ordinary.reactances]
+            .map(|points| self.sum(points.iter().copied()));
+        let beside = |load: &Integer, side: i64| load.compare(&self.number(PARTS * side));
+        [
+            beside(&resistance, sides[0]),
+            beside(&resistance, sides[1]),
+            beside(&reactance, sides[2]),
+            beside(&reactance, sides[3]),
+        ]
     }
 }
 

@@ -13,6 +13,7 @@ pub enum Row {
     Elevate,
     Bounds,
     Search,
+    SearchLoads,
     NoCarrier,
     RandomLoads,
     RandomSpreads,
@@ -45,12 +46,13 @@ pub enum Row {
 }
 
 /// Each row's name, and how many comparisons must agree.
-pub const ROWS: [(Row, &str, u64); 34] = [
+pub const ROWS: [(Row, &str, u64); 35] = [
     (Evaluate, "evaluate", 2_000_000),
     (Subdivide, "subdivide", 1_000_000),
     (Elevate, "elevate", 500_000),
     (Bounds, "bounds", 200_000),
     (Search, "search", 500_000),
+    (SearchLoads, "search, loads by the verdict", 50_000),
     (NoCarrier, "enclose, no carrier", 2_000_000),
     (RandomLoads, "enclose, loads, any bits", 2_000_000),
     (RandomSpreads, "enclose, with spread, any bits", 2_000_000),
@@ -75,7 +77,7 @@ pub const ROWS: [(Row, &str, u64); 34] = [
     (CardLong, "card, long input", 5),
     (CardPlaces, "card, every place of a refusal", 76),
     (CardSlow, "card, slow pipe", 16),
-    (ReplayExamples, "replay, examples", 16),
+    (ReplayExamples, "replay, examples", 18),
     (ReplayTexts, "replay, texts", 100),
     (ReplayDamaged, "replay, damaged texts", 500),
     (ReplayLong, "replay, long texts", 1),
@@ -119,9 +121,13 @@ pub enum Line {
     SearchNumbers,
     SearchVerdict,
     SearchLimits,
+    NoBoxLimits,
+    NoBoxes,
+    BoxEdges,
     SearchDepth,
     Verdicts,
     Pieces,
+    BoxLoads,
     MeasuredLent,
     NoCarrierNumbers,
     NoCarrierRect,
@@ -191,6 +197,26 @@ pub enum Ohm {
     Above,
     Least,
     Greatest,
+}
+
+/// Why a search has no box.
+#[derive(Clone, Copy)]
+pub enum NoBox {
+    OutOfRange,
+    Crossed,
+    NoResistance,
+    NoReactance,
+    Neither,
+}
+
+/// Where a load lies to a box: in it, in it and at a low side, beyond it by nothing but a high side that it
+/// lies at, or beyond it otherwise.
+#[derive(Clone, Copy, PartialEq, Debug)]
+pub enum BoxLoad {
+    Within,
+    AtLow,
+    AtHigh,
+    Beyond,
 }
 
 /// What a measured number is, without its sign.
@@ -265,10 +291,30 @@ const FITS: Values = Words(&["one short", "exact", "one more"]);
 const EQUAL_FLAGS: Values = Words(&["rounded", "exact between 0 and 1", "exact at 0 or 1"]);
 /// In the order of false and true.
 const FLAGS: Values = Words(&["rounded", "exact"]);
-/// In the order of the enums Before, At, Ohm, Number, Kind, Malformed and CardAnswer.
+/// The sides of a box that decide how the curve's bounds lie to it: which side, and whether the bounds start
+/// or end there.
+const EDGES: Values = Words(&[
+    "starts at R low",
+    "ends",
+    "starts at R high",
+    "ends",
+    "starts at X low",
+    "ends",
+    "starts at X high",
+    "ends",
+]);
+/// In the order of the enums Before, At, Ohm, NoBox, BoxLoad, Number, Kind, Malformed and CardAnswer.
 const BEFORE: Values = Words(&["no change", "exact changes", "a rounded change"]);
 const AT: Values = Words(&["0", "1", "between", "den 1", "den 65,536", "den between"]);
 const OHMS: Values = Words(&["0", "below 0", "above 0", "-16,384", "16,384"]);
+const NO_BOXES: Values = Words(&[
+    "out of range",
+    "low above high",
+    "empty in R",
+    "empty in X",
+    "empty in both",
+]);
+const BOX_LOADS: Values = Words(&["within", "at a low side", "at a high side", "beyond"]);
 const NUMBERS: Values = Words(&[
     "0",
     "subnormal",
@@ -432,10 +478,15 @@ pub const GROUPS: [Group; 13] = [
                 1_000,
             ),
             (SearchVerdict, "verdict lent", Span(0, 8), 500),
-            (SearchLimits, "accepted by limits lent", Span(0, 8), 1_000),
+            // With fewer than three sides the reactance is 0 to 0.
+            (SearchLimits, "accepted by limits lent", Span(3, 8), 1_000),
+            (NoBoxLimits, "refused 7 by limits lent", Span(0, 8), 500),
+            (NoBoxes, "boxes refused", NO_BOXES, 500),
+            (BoxEdges, "sides that decide", EDGES, 1_000),
             (SearchDepth, "accepted by depth limit", Span(0, 12), 500),
             (Verdicts, "verdicts", Span(1, 4), 1_000),
             (Pieces, "pieces looked at", PIECES, 100),
+            (BoxLoads, "loads by the box", BOX_LOADS, 1_000),
         ],
     ),
     (

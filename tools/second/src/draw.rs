@@ -227,49 +227,74 @@ fn search(rng: &mut Rng, bounds: &Rectangle) -> Search {
     }
 }
 
-/// A box near the bounds of the curve, so that every verdict comes.
+/// A box near the bounds of the curve, so that every verdict comes; one in eight may be empty.
 fn limits(rng: &mut Rng, bounds: &Rectangle) -> Rectangle {
-    let mut limits = *bounds;
-    let style = rng.below(6);
-    for (low, high) in [(0, 1), (2, 3)] {
-        let width = bounds[high] - bounds[low];
-        match style {
-            // The bounds themselves, or wider.
-            0 => {
-                let grown = rng.pick(&[0, 0, 1, 1_000]);
-                limits[low] = (bounds[low] - grown).max(-MAX_SIDE);
-                limits[high] = (bounds[high] + grown).min(MAX_SIDE);
-            }
-            // Small, about a point of the bounds.
-            1 => {
-                limits[low] = rng.between(bounds[low], bounds[high]);
-                limits[high] = (limits[low] + width / 8).min(MAX_SIDE);
-            }
-            // Narrower at one end or both, or not at all.
-            _ => {
-                limits[low] += width / rng.pick(&[2, 3, 8, 64, 1 << 40, 1 << 40]);
-                limits[high] -= width / rng.pick(&[2, 3, 8, 64, 1 << 40, 1 << 40]);
-            }
+    let style = rng.below(8);
+    let filled = !rng.one_in(8);
+    let mut limits = [0; 4];
+    for low in [0, 2] {
+        let drawn = side_limits(rng, style, bounds[low], bounds[low + 1]);
+        limits[low..low + 2].copy_from_slice(&drawn);
+        if filled && drawn[0] == drawn[1] {
+            // A step wide.
+            let at_end = drawn[1] == MAX_SIDE;
+            limits[low + usize::from(!at_end)] += if at_end { -1 } else { 1 };
         }
     }
     limits
 }
 
+/// A low and a high limit for a coordinate that goes from low to high, in range, low at most high.
+fn side_limits(rng: &mut Rng, style: u64, low: i64, high: i64) -> [i64; 2] {
+    let width = high - low;
+    let limits = match style {
+        // As far as the curve or farther; a step more at the high end, where the curve still fits.
+        0 | 1 => {
+            let grown = rng.pick(&[0, 0, 1, 1_000]);
+            [low - grown, high + grown + rng.between(0, 1)]
+        }
+        // Small, about a point of the bounds.
+        2 => {
+            let point = rng.between(low, high);
+            [point, point + width / 8]
+        }
+        // Beside the bounds, touching them or a step away, or within.
+        3 => {
+            let (away, wide) = (rng.between(0, 1), rng.pick(&[1, 1_000]));
+            match rng.below(3) {
+                0 => [high + away, high + away + wide],
+                1 => [low - away - wide, low - away],
+                _ => [low, high + 1],
+            }
+        }
+        // Narrower at one end or both, or not at all.
+        _ => {
+            let part = |rng: &mut Rng| width / rng.pick(&[2, 3, 8, 64, 1 << 40, 1 << 40]);
+            [low + part(rng), high - part(rng)]
+        }
+    };
+    limits.map(|side| side.clamp(-MAX_SIDE, MAX_SIDE))
+}
+
 fn refused_limits(rng: &mut Rng) -> Rectangle {
     rng.pick(&[
-        [1, 0, 0, 0],
-        [0, 0, 1, 0],
-        [-MAX_SIDE - 1, 0, 0, 0],
-        [0, MAX_SIDE + 1, 0, 0],
-        [0, 0, -999_999_999, 0],
-        [0, 0, 0, 2_147_483_647],
-        [MAX_SIDE + 1, 0, 0, 0],
+        [1, 0, 0, 1],
+        [0, 1, 1, 0],
+        [3, 3, 0, 1],
+        [0, 1, -3, -3],
+        [0, 0, 0, 0],
+        [-MAX_SIDE - 1, 0, 0, 1],
+        [0, MAX_SIDE + 1, 0, 1],
+        [0, 1, -999_999_999, 0],
+        [0, 1, 0, 2_147_483_647],
+        [MAX_SIDE + 1, MAX_SIDE + 2, 0, 1],
     ])
 }
 
 #[cfg(test)]
 mod tests {
     use super::*;
+    use crate::search::is_empty;
 
     /// Of 8,000 curves some 410 are refused with 2, some 230 with 3 and some 125 with 1.
     #[test]
@@ -285,13 +310,17 @@ mod tests {
         assert!(refused.iter().all(|times| *times > 80), "{numbers:?}");
     }
 
+    /// Of 8,000 boxes some 60 are empty, and none is refused for another reason.
     #[test]
     fn draws_a_box_in_range() {
         let mut rng = Rng::new(4);
+        let mut empty = 0;
         for k in 0..8_000 {
             let bounds = curve(&mut rng, 1 + k % 8).bounds().unwrap();
             let drawn = limits(&mut rng, &bounds);
             assert_eq!(Curve::new(&[drawn, bounds]).check(), Ok(()), "{drawn:?}");
+            empty += usize::from(is_empty(&drawn) != [false; 2]);
         }
+        assert!((20..200).contains(&empty), "{empty}");
     }
 }

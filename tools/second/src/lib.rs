@@ -1,4 +1,4 @@
-//! The second program: document 01 and document 02's points 1 and 2 written again in ordinary Rust, from
+//! The second program: document 01 and document 02's points 1 to 3 written again in ordinary Rust, from
 //! the papers and not from the proved code, and what runs it beside the proved library and the programs.
 #![forbid(unsafe_code)]
 
@@ -33,12 +33,15 @@ pub mod measured;
 pub mod panel;
 pub mod programs;
 pub mod trial;
+pub mod verdicts;
 
 // What is counted.
 pub mod coverage;
 pub mod parts;
 pub mod tally;
 
+#[cfg(test)]
+mod box_faults;
 #[cfg(test)]
 mod bridge_faults;
 #[cfg(test)]

@@ -152,12 +152,17 @@ impl Integer {
         side.add_product(factor.unsigned_abs(), natural);
     }
 
+    pub fn compare(&self, other: &Integer) -> Ordering {
+        let mine = self.added.plus(&other.taken);
+        mine.cmp(&other.added.plus(&self.taken))
+    }
+
     pub fn at_most(&self, other: &Integer) -> bool {
-        self.added.plus(&other.taken) <= other.added.plus(&self.taken)
+        self.compare(other).is_le()
     }
 
     pub fn equals(&self, other: &Integer) -> bool {
-        self.added.plus(&other.taken) == other.added.plus(&self.taken)
+        self.compare(other).is_eq()
     }
 }
 

@@ -1,5 +1,5 @@
-//! The search for where a curve leaves a box (the paper's walk over a box), by the paper's rules, with
-//! the pieces that are due on a list.
+//! The search for where a curve leaves a box (the paper's walk over a box), by document 01's rules and
+//! document 02's box, with the pieces that are due on a list.
 
 use crate::model::{low_above_high, out_of_range, refuse_if, Curve, Parameter, Rectangle, Refusal};
 
@@ -57,7 +57,9 @@ impl Search {
 
     fn verdict(&self, curve: &Curve) -> Result<(Verdict, u32), Refusal> {
         curve.check()?;
-        let no_box = out_of_range(&self.limits) || low_above_high(&self.limits);
+        let limits = &self.limits;
+        let no_box =
+            out_of_range(limits) || low_above_high(limits) || is_empty(limits) != [false; 2];
         refuse_if(no_box, 7, 0)?;
         refuse_if(self.depth > MAX_DEPTH, 8, 0)?;
         refuse_if(self.budget < 1 || self.budget > MAX_BUDGET, 9, 0)?;
@@ -95,12 +97,23 @@ impl Search {
     }
 }
 
-fn lies_in(inner: &Rectangle, outer: &Rectangle) -> bool {
-    outer[0] <= inner[0] && inner[1] <= outer[1] && outer[2] <= inner[2] && inner[3] <= outer[3]
+/// A box's high sides lie outside the box, its low sides inside.
+pub fn lies_in(span: &Rectangle, limits: &Rectangle) -> bool {
+    let resistance = limits[0] <= span[0] && span[1] < limits[1];
+    let reactance = limits[2] <= span[2] && span[3] < limits[3];
+    resistance && reactance
 }
 
-fn have_no_common_point(a: &Rectangle, b: &Rectangle) -> bool {
-    a[1] < b[0] || b[1] < a[0] || a[3] < b[2] || b[3] < a[2]
+/// Also where the span's low equals the box's high.
+pub fn have_no_common_point(span: &Rectangle, limits: &Rectangle) -> bool {
+    let resistance = span[1] < limits[0] || span[0] >= limits[1];
+    let reactance = span[3] < limits[2] || span[2] >= limits[3];
+    resistance || reactance
+}
+
+/// Whether low equals high, in resistance and in reactance.
+pub fn is_empty(limits: &Rectangle) -> [bool; 2] {
+    [limits[0] == limits[1], limits[2] == limits[3]]
 }
 
 #[cfg(test)]
@@ -120,28 +133,40 @@ mod tests {
 
     #[test]
     fn ends_as_the_examples_say() {
-        let half = [0, 2, 0, 0];
-        assert_eq!(searched(half, 2, 5), Ok([2, 2, 3, 5]));
+        let half = [0, 2, 0, 1];
+        assert_eq!(searched(half, 2, 5), Ok([2, 1, 1, 5]));
         assert_eq!(searched(half, 2, 4), Ok([3, 0, 0, 4]));
-        assert_eq!(searched(half, 1, 5), Ok([4, 1, 1, 3]));
-        assert_eq!(searched([0, 4, 0, 0], 12, 8_191), Ok([1, 0, 0, 1]));
+        assert_eq!(searched(half, 1, 5), Ok([2, 1, 1, 3]));
+        assert_eq!(searched([0, 5, 0, 1], 12, 8_191), Ok([1, 0, 0, 1]));
+    }
+
+    /// The reactance 0 lies at the low side and is in the box; at the high side it is not. At the
+    /// resistance's low side the curve only touches the box, so that the search goes on.
+    #[test]
+    fn has_its_low_sides_alone() {
+        assert_eq!(searched([0, 5, 0, 1], 0, 1), Ok([1, 0, 0, 1]));
+        assert_eq!(searched([0, 5, -1, 0], 0, 1), Ok([2, 0, 0, 1]));
+        assert_eq!(searched([4, 5, 0, 1], 0, 1), Ok([4, 0, 0, 1]));
+        assert_eq!(searched([0, 4, 0, 1], 0, 1), Ok([4, 0, 0, 1]));
     }
 
     #[test]
     fn refuses_in_number_order() {
         let refused = |number| Err(Refusal { number, place: 0 });
-        assert_eq!(searched([1, 0, 0, 0], 13, 0), refused(7));
-        assert_eq!(searched([0, 16_777_217, 0, 0], 13, 0), refused(7));
-        assert_eq!(searched([0; 4], 13, 0), refused(8));
-        assert_eq!(searched([0; 4], 12, 0), refused(9));
-        assert_eq!(searched([0; 4], 12, 8_192), refused(9));
+        assert_eq!(searched([1, 0, 0, 1], 13, 0), refused(7));
+        assert_eq!(searched([0, 16_777_217, 0, 1], 13, 0), refused(7));
+        assert_eq!(searched([0, 0, 0, 1], 13, 0), refused(7));
+        assert_eq!(searched([0, 1, 0, 0], 13, 0), refused(7));
+        assert_eq!(searched([0, 1, 0, 1], 13, 0), refused(8));
+        assert_eq!(searched([0, 1, 0, 1], 12, 0), refused(9));
+        assert_eq!(searched([0, 1, 0, 1], 12, 8_192), refused(9));
     }
 
     #[test]
     fn is_never_spent_at_the_whole_budget() {
         let curve = Curve::new(&[[-1, 1, -1, 1]; 9]);
         let search = Search {
-            limits: [0; 4],
+            limits: [0, 1, 0, 1],
             depth: 12,
             budget: 8_191,
         };

@@ -1,5 +1,6 @@
-//! Document 01's examples as texts for `replay`, with the answers that the paper gives, and a few more
-//! along its limits and for document 02's exact flag, worked by hand. A stroke ends a line; the numbers are set into columns.
+//! The papers' examples as texts for `replay`, document 01's and where it restates them document 02's, with
+//! the answers that they give, and a few more along the limits and for the exact flag, worked by hand. A
+//! stroke ends a line; the numbers are set into columns.
 
 use crate::card::line_of;
 
@@ -12,7 +13,7 @@ pub const PRINTED: &[u8] = b"         0         3        -3         2
          0         2        -2         0
 ";
 
-const EXAMPLES: [(&str, &str); 16] = [
+const EXAMPLES: [(&str, &str); 18] = [
     // The card read at 1/2 and at 2/4, its two ends and its bounds.
     (
         "1 / 0 1 -3 -3 / 1 3 0 2 / 1 1 2 / 1 2 4 / 1 0 1 / 1 7 7 / 5 / 0",
@@ -48,15 +49,24 @@ const EXAMPLES: [(&str, &str); 16] = [
     ),
     // The searches.
     (
-        "1 / 0 0 0 0 / 4 4 0 0 / 6 0 2 0 0 2 5 / 6 0 2 0 0 2 4 / 6 0 2 0 0 1 5 / 6 0 4 0 0 12 8191 / 0",
-        "0 1 / 0 2 2 3 5 / 0 3 0 0 4 / 0 4 1 1 3 / 0 1 0 0 1",
+        "1 / 0 0 0 0 / 4 4 0 0 / 6 0 2 0 1 2 5 / 6 0 2 0 1 2 4 / 6 0 2 0 1 1 5 / 6 0 5 0 1 12 8191 / 0",
+        "0 1 / 0 2 1 1 5 / 0 3 0 0 4 / 0 2 1 1 3 / 0 1 0 0 1",
     ),
     // A search at budget 8,191 that looks at every piece and isn't spent.
-    ("1 / -1 1 -1 1 / -1 1 -1 1 / 6 0 0 0 0 12 8191 / 0", "0 1 / 0 4 12 0 8191"),
-    // The search's refusals in number order.
+    ("1 / -1 1 -1 1 / -1 1 -1 1 / 6 0 1 0 1 12 8191 / 0", "0 1 / 0 4 12 0 8191"),
+    // The box of the full range does not have a load at its high side; a step below it does.
     (
-        "1 / 0 0 0 0 / 4 4 0 0 / 6 1 0 0 0 13 0 / 6 0 0 0 0 13 0 / 6 0 0 0 0 12 0 / 6 0 0 0 0 12 8192 / 0",
-        "0 1 / 7 0 / 8 0 / 9 0 / 9 0",
+        "1 / 16777216 16777216 0 0 / 16777216 16777216 0 0 / 6 -16777216 16777216 -16777216 16777216 12 8191 / 0",
+        "0 1 / 0 2 0 0 1",
+    ),
+    (
+        "1 / -16777216 16777215 0 0 / 0 0 0 0 / 6 -16777216 16777216 -16777216 16777216 12 8191 / 0",
+        "0 1 / 0 1 0 0 1",
+    ),
+    // The search's refusals in number order; a box is empty in either coordinate.
+    (
+        "1 / 0 0 0 0 / 4 4 0 0 / 6 1 0 0 1 13 0 / 6 1 1 0 1 13 0 / 6 0 1 0 0 13 0 / 6 0 1 0 1 13 0 / 6 0 1 0 1 12 0 / 6 0 1 0 1 12 8192 / 0",
+        "0 1 / 7 0 / 7 0 / 7 0 / 8 0 / 9 0 / 9 0",
     ),
     // Raising stops at degree 8, and a refused call leaves the curve and the ledger.
     (

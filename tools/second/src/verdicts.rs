@@ -1,0 +1,98 @@
+//! The verdicts that came, tried with exact fractions. After Inside every ordinary curve's load lies in the
+//! box, at or above its low sides and strictly below its high ones; after Outside none does on the stretch
+//! of the piece that is named.
+
+use crate::claim::{Bernstein, Ordinary};
+use crate::coverage::{BoxLoad, Line, Row};
+use crate::given::Given;
+use crate::model::Rectangle;
+use crate::trial::Trial;
+use std::cmp::Ordering;
+
+/// One in so many verdicts is tried.
+const TRIED: u64 = 8;
+/// A stretch is tried at its ends and at one of the places between, counted in this many parts.
+const PARTS: u32 = 256;
+
+const INSIDE: u32 = 1;
+const OUTSIDE: u32 = 2;
+
+impl Trial<'_> {
+    /// Tries the verdict of an accepted search. Inside has the numbers of the whole curve's piece.
+    pub fn try_verdict(
+        &mut self,
+        given: &Given,
+        limits: &Rectangle,
+        verdict: &[u32],
+    ) -> Result<(), String> {
+        let [number @ (INSIDE | OUTSIDE), depth, index, ..] = *verdict else {
+            return Ok(());
+        };
+        if !self.rng.one_in(TRIED) {
+            return Ok(());
+        }
+        let curve = given.curve();
+        let inside = Ordinary::some_inside(&curve, self.rng);
+        for part in [0, 1 + self.rng.up_to(PARTS as usize - 2) as u32, PARTS] {
+            let (upper, lower) = (index * PARTS + part, PARTS << depth);
+            let weights = Bernstein::at(curve.degree, &upper.into(), &lower.into());
+            let loads = inside.iter().map(|o| weights.load_beside(o, limits));
+            self.compare_loads(number, loads, || {
+                format!("{given}\nlimits {limits:?}, verdict {verdict:?}, at {upper}/{lower}")
+            })?;
+        }
+        Ok(())
+    }
+
+    fn compare_loads(
+        &mut self,
+        number: u32,
+        loads: impl Iterator<Item = [Ordering; 4]>,
+        input: impl FnOnce() -> String,
+    ) -> Result<(), String> {
+        let mut agree = true;
+        for load in loads {
+            agree &= is_in_box(load) == (number == INSIDE);
+            self.tally.cover(Line::BoxLoads, kind(load) as usize);
+        }
+        self.tally.compare(Row::SearchLoads, agree, input)
+    }
+}
+
+/// Whether a load that lies so to the sides of a box lies in it.
+fn is_in_box([r_low, r_high, x_low, x_high]: [Ordering; 4]) -> bool {
+    r_low.is_ge() && r_high.is_lt() && x_low.is_ge() && x_high.is_lt()
+}
+
+fn kind(load: [Ordering; 4]) -> BoxLoad {
+    let [r_low, r_high, x_low, x_high] = load;
+    let with_edges = r_low.is_ge() && r_high.is_le() && x_low.is_ge() && x_high.is_le();
+    match (is_in_box(load), r_low.is_eq() || x_low.is_eq()) {
+        (true, true) => BoxLoad::AtLow,
+        (true, false) => BoxLoad::Within,
+        (false, _) if with_edges => BoxLoad::AtHigh,
+        (false, _) => BoxLoad::Beyond,
+    }
+}
+
+#[cfg(test)]
+mod tests {
+    use super::*;
+    use crate::model::Curve;
+
+    /// The load of values 0, 4 at 1/2 is 2.
+    #[test]
+    fn knows_a_load_at_the_sides_of_a_box() {
+        let curve = Curve::new(&[[0; 4], [4, 4, 0, 0]]);
+        let ordinary = Ordinary::inside(&curve, || 0);
+        let weights = Bernstein::at(1, &1.into(), &2.into());
+        let kind = |limits| kind(weights.load_beside(&ordinary, &limits));
+        assert_eq!(kind([1, 3, -1, 1]), BoxLoad::Within);
+        assert_eq!(kind([2, 3, -1, 1]), BoxLoad::AtLow);
+        assert_eq!(kind([1, 3, 0, 1]), BoxLoad::AtLow);
+        assert_eq!(kind([1, 2, -1, 1]), BoxLoad::AtHigh);
+        assert_eq!(kind([2, 3, -1, 0]), BoxLoad::AtHigh);
+        assert_eq!(kind([3, 4, -1, 1]), BoxLoad::Beyond);
+        assert_eq!(kind([1, 3, -2, -1]), BoxLoad::Beyond);
+    }
+}
