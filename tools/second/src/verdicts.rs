@@ -78,13 +78,18 @@ fn kind(load: [Ordering; 4]) -> BoxLoad {
 #[cfg(test)]
 mod tests {
     use super::*;
+    use crate::door::MODEL;
     use crate::model::Curve;
+    use crate::rng::Rng;
+    use crate::tally::Tally;
 
-    /// The load of values 0, 4 at 1/2 is 2.
+    /// Resistances 0, 4 and reactances 0, 0.
+    const LINE: [Rectangle; 2] = [[0; 4], [4, 4, 0, 0]];
+
+    /// The line's load at 1/2 is 2.
     #[test]
     fn knows_a_load_at_the_sides_of_a_box() {
-        let curve = Curve::new(&[[0; 4], [4, 4, 0, 0]]);
-        let ordinary = Ordinary::inside(&curve, || 0);
+        let ordinary = Ordinary::inside(&Curve::new(&LINE), || 0);
         let weights = Bernstein::at(1, &1.into(), &2.into());
         let kind = |limits| kind(weights.load_beside(&ordinary, &limits));
         assert_eq!(kind([1, 3, -1, 1]), BoxLoad::Within);
@@ -94,5 +99,31 @@ mod tests {
         assert_eq!(kind([2, 3, -1, 0]), BoxLoad::AtHigh);
         assert_eq!(kind([3, 4, -1, 1]), BoxLoad::Beyond);
         assert_eq!(kind([1, 3, -2, -1]), BoxLoad::Beyond);
+    }
+
+    /// Whether a verdict on the line agrees with its loads, however often it is tried.
+    fn agrees(limits: Rectangle, verdict: [u32; 4]) -> bool {
+        let (mut rng, mut tally) = (Rng::new(5), Tally::default());
+        let mut trial = Trial {
+            door: &MODEL,
+            rng: &mut rng,
+            tally: &mut tally,
+        };
+        let line = Given::exact(&Curve::new(&LINE));
+        (0..200).all(|_| trial.try_verdict(&line, &limits, &verdict).is_ok())
+    }
+
+    #[test]
+    fn finds_a_verdict_that_is_not_that_of_the_loads() {
+        let inside = [INSIDE, 0, 0, 1];
+        assert!(agrees([0, 5, 0, 1], inside));
+        assert!(!agrees([0, 4, 0, 1], inside));
+        assert!(!agrees([0, 5, -1, 0], inside));
+        assert!(!agrees([1, 5, 0, 1], inside));
+        // The right half goes from 2 to 4, the left one from 0 to 2.
+        assert!(agrees([0, 2, 0, 1], [OUTSIDE, 1, 1, 3]));
+        assert!(!agrees([0, 3, 0, 1], [OUTSIDE, 1, 1, 3]));
+        assert!(!agrees([2, 3, 0, 1], [OUTSIDE, 1, 0, 3]));
+        assert!(agrees([3, 4, 0, 1], [OUTSIDE, 1, 0, 3]));
     }
 }
