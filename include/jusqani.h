@@ -19,7 +19,7 @@
  *    4  den is not 1 to 65,536
  *    5  num is above den
  *    6  the degree is 8 and cannot be raised
- *    7  a box side is out of range, or its low side is not below its high side
+ *    7  a box side is out of range, or a low side is not below its high side
  *    8  depth is above 12
  *    9  budget is not 1 to 8,191
  *   10  the card has fewer than 11 bytes, or not the length for its degree; place: its length, 2^32 - 1 if longer
@@ -101,13 +101,14 @@ uint64_t jusqani_bounds(uint32_t degree, const int32_t *sides, size_t sides_leng
 
 /*
  * Decides whether the curve stays in a box, by cutting it into pieces none deeper than depth and looking at no more
- * than budget of them. The box is four sides; those that the buffer does not have count as zero. Its low sides lie
- * inside it and its high sides outside: a high side is the first value not allowed. Four numbers are stored in verdict:
- * which verdict (1 Inside, 2 Outside, 3 Spent, 4 Undecided), the depth and the index of the piece that Outside and
- * Undecided name (0 and 0 for the others), and the number of pieces looked at. Inside says that every load of every
- * curve in the rectangles lies at or above the low sides and strictly below the high sides, and Outside that on the
- * stretch of its piece, from index / 2^depth to (index + 1) / 2^depth, none does. Refusals 1, 2, 3, 7, 8, 9 and 12:
- * verdict is shorter than 4. A refusal changes nothing, and verdict keeps what lies past the four.
+ * than budget of them. The box is four sides; those that the buffer does not have count as zero, so fewer than three
+ * are always a 7. Its low sides lie inside it and its high sides outside: a high side is the first value not allowed.
+ * Four numbers are stored in verdict: which verdict (1 Inside, 2 Outside, 3 Spent, 4 Undecided), the depth and the
+ * index of the piece that Outside and Undecided name (0 and 0 for the others), and the number of pieces looked at.
+ * Inside says that every load of every curve in the rectangles lies at or above the low sides and strictly below the
+ * high sides; Outside, that no load lies in the box on the stretch of its piece, from index / 2^depth to
+ * (index + 1) / 2^depth, both ends included. Refusals 1, 2, 3, 7, 8, 9 and 12: verdict is shorter than 4. A refusal
+ * changes nothing, and verdict keeps what lies past the four.
  */
 uint64_t jusqani_search(uint32_t degree, const int32_t *sides, size_t sides_length, const int32_t *limits,
                         size_t limits_length, uint32_t depth, uint32_t budget, uint32_t *verdict,

@@ -201,7 +201,7 @@ static void take_card(const char *path)
     }
     card_length = read_input(card);
     if (jusqani_read_card(card, card_length, curve, MAX_CURVE) == 0) {
-        /* The step at a corner of rectangle 0: the search goes down to the piece at the curve's start. */
+        /* A box a step wide at a corner of rectangle 0: the search goes down to the piece at the curve's start. */
         limits[0] = curve[1];
         limits[1] = curve[1] + 1;
         limits[2] = curve[3];

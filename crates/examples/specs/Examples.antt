@@ -1,4 +1,4 @@
--- Document 01's examples that carry a star, as document 02 restates them, and those of document 02's requests: what the definitions answer beside what the documents say.
+-- Document 01's examples that carry a star, the walk's as document 02 restates them, and those of document 02's requests: what the definitions answer beside what the documents say.
 -- Assumes nothing.
 use mathlib.Core.Path.{_≡_}
 use mathlib.Core.List.{List, [], _∷_, map}
@@ -149,7 +149,7 @@ examples =
     -- a box with low equal to high is a 7, in either coordinate
     ∷ (refusalShown (searched zeroToFour (box (pos 2) (pos 2) (pos 0) (pos 1)) 2 5 .refusal) gives pos 7 ∷ pos 0 ∷ [])
     ∷ (refusalShown (searched zeroToFour (box (pos 0) (pos 5) (pos 0) (pos 0)) 2 5 .refusal) gives pos 7 ∷ pos 0 ∷ [])
-    -- the widest box does not have 16,384 ohms: Outside, at once; a step less it has
+    -- the widest box does not hold 16,384 ohms: Outside, at once; a step less it holds
     ∷ (verdictShown (searched (values 1 (pos 16777216 ∷ pos 16777216 ∷ [])) widestBox 12 8191 .verdict) gives pos outside ∷ pos 0 ∷ pos 0 ∷ pos 1 ∷ [])
     ∷ (verdictShown (searched (values 1 (negsuc 16777215 ∷ pos 16777215 ∷ [])) widestBox 12 8191 .verdict) gives pos inside ∷ pos 0 ∷ pos 0 ∷ pos 1 ∷ [])
     -- the exact flag: values 0, 4 at 1/2 are lit; values 1, 0, 3 at 1/2 dark, read and cut

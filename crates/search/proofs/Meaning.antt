@@ -119,7 +119,7 @@ module _ (c : Curve) (accepted : Accepted c) (box : Rect) (o : Ordinary) (within
   Loads : ℕ → ℕ → Type 0
   Loads d i = (t : Frac) → dyadic d i ≤ℚ rat t → rat t ≤ℚ dyadic d (i + 1) → LoadIn o box t
 
-  -- and in the piece's span
+  -- every load there lies in the piece's span
   span-loads : (d i : ℕ) (piece : Curve) → Place c box d i piece → (t : Frac) → dyadic d i ≤ℚ rat t → rat t ≤ℚ dyadic d (i + 1) → LoadSpanned o (bounded piece .rect) t
   span-loads d i piece p t low high =
       let here = subst (Laid c d i) (sym (p .is)) (laid c accepted d i (p .numbered)) in

@@ -43,7 +43,7 @@ module _ (c : Curve) where
   module _ (box : Rect) where
     across-crossing : (piece : Curve) → Crossing box piece → isAcross box piece ≡ true
     unfolding isAcross
-    across-crossing piece o = rw (o .outside, o .touching)
+    across-crossing piece o = rw (o .outside, o .meeting)
 
     across-within : (piece : Curve) → Within box piece → isAcross box piece ≡ false
     unfolding isAcross

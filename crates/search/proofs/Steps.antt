@@ -57,7 +57,7 @@ module _ (box : Rect) where
 
   pub record Crossing (piece : Curve) : Type 0 where
     pub outside : inBox (bounded piece .rect) box ≡ false
-    pub touching : apartFrom (bounded piece .rect) box ≡ false
+    pub meeting : apartFrom (bounded piece .rect) box ≡ false
 
   module _ (budget : ℕ) where
     -- a step by its cases
@@ -80,7 +80,7 @@ module _ (box : Rect) where
         go true true i o p q r s = exhausted (on-going v p) (eqb-true (countOf v) budget q)
         go true false true o p q r s = contained (looks p q) (record { contained = r })
         go true false false true p q r s = apart (looks p q) (record { outside = r; apart = s })
-        go true false false false p q r s = across (looks p q) (record { outside = r; touching = s })
+        go true false false false p q r s = across (looks p q) (record { outside = r; meeting = s })
 
     -- each step by what it says
     step-is : (piece : Curve) (v : Verdict) (f i o : Bool) →
@@ -100,7 +100,7 @@ module _ (box : Rect) where
     step-apart piece v l w = step-is piece v false false true (l .going) (ne-eqb (countOf v) budget (l .below)) (w .outside) (w .apart)
 
     pub step-across : (piece : Curve) (v : Verdict) → Looks budget v → Crossing piece → stepAt box budget piece v ≡ Across
-    step-across piece v l w = step-is piece v false false false (l .going) (ne-eqb (countOf v) budget (l .below)) (w .outside) (w .touching)
+    step-across piece v l w = step-is piece v false false false (l .going) (ne-eqb (countOf v) budget (l .below)) (w .outside) (w .meeting)
 
     -- what follows across the edge
     unfoldable pub further : ℕ → Curve → ℕ → ℕ → Verdict → Verdict

@@ -1,5 +1,5 @@
 -- How a rectangle lies to a box: in it, or apart from it. The walk cites these two and nothing else of a box.
--- A box's low sides lie inside it and its high sides outside: a high side is the first value not allowed. A span has both its ends.
+-- A box's low sides lie inside it and its high sides outside: a high side is the first value not allowed. A span includes both its ends.
 -- Assumes nothing.
 use mathlib.Core.Bool.{Bool, _&&_, _||_}
 use lib.Signed.{leZ, ltZ}

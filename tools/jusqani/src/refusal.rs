@@ -20,7 +20,7 @@ impl Refusal {
             4 => "den is not 1 to 65,536",
             5 => "num is above den",
             6 => "the degree is 8 and cannot be raised",
-            7 => "a box side is out of range, or its low side is not below its high side",
+            7 => "a box side is out of range, or a low side is not below its high side",
             8 => "depth is above 12",
             9 => "budget is not 1 to 8,191",
             10 => "the card has fewer than 11 bytes, or not the length for its degree",

@@ -51,7 +51,7 @@ pub const BOX_FAULTS: [(&str, Row, Door); 4] = [
     ),
 ];
 
-/// The box with one side a step higher where low and high of its coordinate are such.
+/// The box with one side a step higher, where `such` holds of its coordinate's low and high.
 fn moved(limits: &[i32], side: usize, such: impl Fn(i64, i64) -> bool) -> [i32; 4] {
     let mut limits = given_limits(limits);
     let low = side & !1;

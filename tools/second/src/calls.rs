@@ -7,7 +7,7 @@ use crate::lent::{Compared, Lent, LentNumber, BEHIND};
 use crate::model::{
     low_above_high, out_of_range, Flagged, Parameter, Rectangle, MAX_DEGREE, MAX_SIDE,
 };
-use crate::search::{have_no_common_point, is_empty, lies_in, Search};
+use crate::search::{empty_coordinates, have_no_common_point, lies_in, Search};
 use crate::trial::{Counted, Outcome, Trial, SPARE};
 use std::cmp::Ordering;
 
@@ -212,7 +212,7 @@ impl Trial<'_> {
             let mut higher = *limits;
             higher[side] += 1;
             if lies(limits) != lies(&higher) {
-                // Bounds that end there lie across the box's edge.
+                // Bounds that end there lie across the side; those that start there are in the box or apart.
                 let ends = lies(limits) == (false, false);
                 self.tally
                     .cover(Line::BoxEdges, 2 * side + usize::from(ends));
@@ -266,11 +266,12 @@ impl Trial<'_> {
 
 /// Why limits that are refused are no box.
 fn no_box(limits: &Rectangle) -> NoBox {
-    match is_empty(limits) {
+    match empty_coordinates(limits) {
         _ if out_of_range(limits) => NoBox::OutOfRange,
         _ if low_above_high(limits) => NoBox::Crossed,
-        [true, false] => NoBox::NoResistance,
-        [false, true] => NoBox::NoReactance,
-        _ => NoBox::Neither,
+        [true, false] => NoBox::EmptyResistance,
+        [false, true] => NoBox::EmptyReactance,
+        [true, true] => NoBox::EmptyBoth,
+        [false, false] => unreachable!("a box that is refused"),
     }
 }

@@ -204,13 +204,13 @@ pub enum Ohm {
 pub enum NoBox {
     OutOfRange,
     Crossed,
-    NoResistance,
-    NoReactance,
-    Neither,
+    EmptyResistance,
+    EmptyReactance,
+    EmptyBoth,
 }
 
-/// Where a load lies to a box: in it, in it and at a low side, beyond it by nothing but a high side that it
-/// lies at, or beyond it otherwise.
+/// Where a load lies to a box: in it and at no low side, in it and at a low side, kept out of it only by a
+/// high side that it lies at, or beyond it otherwise.
 #[derive(Clone, Copy, PartialEq, Debug)]
 pub enum BoxLoad {
     Within,
@@ -295,13 +295,13 @@ const FLAGS: Values = Words(&["rounded", "exact"]);
 /// or end there.
 const EDGES: Values = Words(&[
     "starts at R low",
-    "ends",
+    "ends at R low",
     "starts at R high",
-    "ends",
+    "ends at R high",
     "starts at X low",
-    "ends",
+    "ends at X low",
     "starts at X high",
-    "ends",
+    "ends at X high",
 ]);
 /// In the order of the enums Before, At, Ohm, NoBox, BoxLoad, Number, Kind, Malformed and CardAnswer.
 const BEFORE: Values = Words(&["no change", "exact changes", "a rounded change"]);

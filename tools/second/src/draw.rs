@@ -258,7 +258,7 @@ fn side_limits(rng: &mut Rng, style: u64, low: i64, high: i64) -> [i64; 2] {
             let point = rng.between(low, high);
             [point, point + width / 8]
         }
-        // Beside the bounds, touching them or a step away, or within.
+        // Beside the bounds, touching them or a step away; or just holding them.
         3 => {
             let (away, wide) = (rng.between(0, 1), rng.pick(&[1, 1_000]));
             match rng.below(3) {
@@ -294,7 +294,7 @@ fn refused_limits(rng: &mut Rng) -> Rectangle {
 #[cfg(test)]
 mod tests {
     use super::*;
-    use crate::search::is_empty;
+    use crate::search::empty_coordinates;
 
     /// Of 8,000 curves some 410 are refused with 2, some 230 with 3 and some 125 with 1.
     #[test]
@@ -319,7 +319,7 @@ mod tests {
             let bounds = curve(&mut rng, 1 + k % 8).bounds().unwrap();
             let drawn = limits(&mut rng, &bounds);
             assert_eq!(Curve::new(&[drawn, bounds]).check(), Ok(()), "{drawn:?}");
-            empty += usize::from(is_empty(&drawn) != [false; 2]);
+            empty += usize::from(empty_coordinates(&drawn) != [false; 2]);
         }
         assert!((20..200).contains(&empty), "{empty}");
     }

@@ -58,8 +58,8 @@ impl Search {
     fn verdict(&self, curve: &Curve) -> Result<(Verdict, u32), Refusal> {
         curve.check()?;
         let limits = &self.limits;
-        let no_box =
-            out_of_range(limits) || low_above_high(limits) || is_empty(limits) != [false; 2];
+        let empty = empty_coordinates(limits) != [false; 2];
+        let no_box = out_of_range(limits) || low_above_high(limits) || empty;
         refuse_if(no_box, 7, 0)?;
         refuse_if(self.depth > MAX_DEPTH, 8, 0)?;
         refuse_if(self.budget < 1 || self.budget > MAX_BUDGET, 9, 0)?;
@@ -112,7 +112,7 @@ pub fn have_no_common_point(span: &Rectangle, limits: &Rectangle) -> bool {
 }
 
 /// Whether low equals high, in resistance and in reactance.
-pub fn is_empty(limits: &Rectangle) -> [bool; 2] {
+pub fn empty_coordinates(limits: &Rectangle) -> [bool; 2] {
     [limits[0] == limits[1], limits[2] == limits[3]]
 }
 
@@ -140,8 +140,8 @@ mod tests {
         assert_eq!(searched([0, 5, 0, 1], 12, 8_191), Ok([1, 0, 0, 1]));
     }
 
-    /// The reactance 0 lies at the low side and is in the box; at the high side it is not. At the
-    /// resistance's low side the curve only touches the box, so that the search goes on.
+    /// Reactance 0 is in a box that has it as its low side, and apart from one that has it as its high side.
+    /// A curve that ends at a box's low or high resistance is Undecided at depth 0.
     #[test]
     fn has_its_low_sides_alone() {
         assert_eq!(searched([0, 5, 0, 1], 0, 1), Ok([1, 0, 0, 1]));

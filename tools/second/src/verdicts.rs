@@ -9,16 +9,16 @@ use crate::model::Rectangle;
 use crate::trial::Trial;
 use std::cmp::Ordering;
 
-/// One in so many verdicts is tried.
+/// One verdict in so many is tried.
 const TRIED: u64 = 8;
-/// A stretch is tried at its ends and at one of the places between, counted in this many parts.
+/// A stretch is tried at both ends and at one place between, a whole number of these parts from its start.
 const PARTS: u32 = 256;
 
 const INSIDE: u32 = 1;
 const OUTSIDE: u32 = 2;
 
 impl Trial<'_> {
-    /// Tries the verdict of an accepted search. Inside has the numbers of the whole curve's piece.
+    /// Tries the verdict of an accepted search. Inside has depth 0 and index 0, which are the whole curve's.
     pub fn try_verdict(
         &mut self,
         given: &Given,

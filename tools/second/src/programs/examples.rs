@@ -54,7 +54,7 @@ const EXAMPLES: [(&str, &str); 18] = [
     ),
     // A search at budget 8,191 that looks at every piece and isn't spent.
     ("1 / -1 1 -1 1 / -1 1 -1 1 / 6 0 1 0 1 12 8191 / 0", "0 1 / 0 4 12 0 8191"),
-    // The box of the full range does not have a load at its high side; a step below it does.
+    // The box of the full range holds no load at its high side, and holds one a step below.
     (
         "1 / 16777216 16777216 0 0 / 16777216 16777216 0 0 / 6 -16777216 16777216 -16777216 16777216 12 8191 / 0",
         "0 1 / 0 2 0 0 1",
