@@ -28,6 +28,7 @@
  *   13  a measured number is not finite, a load is beyond 16,384 ohms either way, or a spread is not 0 to 16,384 ohms;
  *       place: 0 the resistance, 1 the reactance, 2 the spread
  *   14  with the spread a side is out of range (16,384 ohms either way); place: 0 the resistance, 1 the reactance
+ *   15  j is above 16
  *
  * A call tries them in the order in which its paragraph lists them, 12 last. A refused call changes no buffer. A call
  * that is not refused stores its result in front of each buffer that it is lent for it, and what lies past the result
@@ -36,8 +37,8 @@
  * A call with a pointer exact also tells whether it rounded: *exact becomes 1 where every affine map that it made, of
  * low and high sides in both coordinates, left no remainder, and 0 where some map was rounded. 1 says that the sides
  * are the exact ones of the curve that the call was given, whatever the calls before it rounded; 0 says only that some
- * map was rounded. Equal fractions num/den give equal flags. A refused call leaves *exact as it was, so look at the
- * answer first.
+ * map was rounded. Equal fractions num/den give equal flags. jusqani_evaluate_sixteenths makes no maps; its flag is
+ * that of its four divisions, one for each side. A refused call leaves *exact as it was, so look at the answer first.
  *
  * The caller provides valid buffers of the stated lengths; one that a call writes, *exact and *found too, overlaps no
  * other. A pointer must not be null, also where its length is 0. The calls keep no pointer and always return.
@@ -74,6 +75,19 @@ extern "C" {
  */
 uint64_t jusqani_evaluate(uint32_t degree, const int32_t *sides, size_t sides_length, uint32_t num, uint32_t den,
                           int32_t *load, size_t load_length, float *ohms, size_t ohms_length, uint32_t *exact);
+
+/*
+ * Evaluates the curve at j/16, for j from 0 to 16, and rounds once: the Bernstein sum of the rectangles' sides, with
+ * the weights (n choose k) (16 - j)^(n - k) j^k, is divided by 16^n, a low side rounded down and a high side up. So no
+ * side lies a whole step from the exact one, and the load lies inside the one that jusqani_evaluate gives at j/16,
+ * which rounds every stage. It is stored in load and ohms as there. *exact becomes 1 where no division left a
+ * remainder, so that all sides are the exact ones, and 0 where one did. Refusals 1, 2, 3, 15 and 12: either
+ * buffer is shorter than 4. A refusal changes neither buffer nor *exact, and both buffers keep what lies past the first
+ * four numbers.
+ */
+uint64_t jusqani_evaluate_sixteenths(uint32_t degree, const int32_t *sides, size_t sides_length, uint32_t j,
+                                     int32_t *load, size_t load_length, float *ohms, size_t ohms_length,
+                                     uint32_t *exact);
 
 /*
  * Subdivides the curve at num/den. The piece up to num/den is stored in left and the piece from there on in right,

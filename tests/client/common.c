@@ -43,6 +43,7 @@ const char *meaning(uint32_t number)
     case 13: return "a measured number is not finite, a load is beyond 16,384 ohms either way, or a spread is not 0 to "
                     "16,384 ohms";
     case 14: return "with the spread a side is out of range (16,384 ohms either way)";
+    case 15: return "j is above 16";
     default: return "not a refusal of the calls that are used here";
     }
 }

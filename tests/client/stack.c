@@ -30,7 +30,7 @@
 /* What the calls are given and give. It is static, so that a call alone uses the measured stack. */
 static uint8_t card[MAX_CARD];
 static size_t card_length;
-static uint32_t num, den;
+static uint32_t num, den, sixteenths;
 static int32_t curve[MAX_CURVE], limits[JUSQANI_RECT_LENGTH];
 static int32_t first[MAX_CURVE], second[MAX_CURVE];
 static float ohms[JUSQANI_RECT_LENGTH];
@@ -57,6 +57,13 @@ static void call_evaluate(void)
     COUNT_FROM_HERE;
     answer = jusqani_evaluate((uint32_t)curve[0], curve + 1, MAX_CURVE - 1, num, den, first, MAX_CURVE, ohms,
                               JUSQANI_RECT_LENGTH, &exact);
+}
+
+static void call_evaluate_sixteenths(void)
+{
+    COUNT_FROM_HERE;
+    answer = jusqani_evaluate_sixteenths((uint32_t)curve[0], curve + 1, MAX_CURVE - 1, sixteenths, first, MAX_CURVE,
+                                         ohms, JUSQANI_RECT_LENGTH, &exact);
 }
 
 static void call_subdivide(void)
@@ -107,10 +114,15 @@ static const struct {
     const char *name;
     void (*call)(void);
 } calls[] = {
-    {"panel", call_panel},         {"evaluate", call_evaluate},
-    {"subdivide", call_subdivide}, {"elevate", call_elevate},
-    {"bounds", call_bounds},       {"search", call_search},
-    {"enclose", call_enclose},     {"read_card", call_read_card},
+    {"panel", call_panel},
+    {"evaluate", call_evaluate},
+    {"evaluate_sixteenths", call_evaluate_sixteenths},
+    {"subdivide", call_subdivide},
+    {"elevate", call_elevate},
+    {"bounds", call_bounds},
+    {"search", call_search},
+    {"enclose", call_enclose},
+    {"read_card", call_read_card},
     {"write_card", call_write_card},
 };
 #define CALLS (sizeof calls / sizeof calls[0])
@@ -165,25 +177,26 @@ static void measure_calls(int pattern)
     }
 }
 
-/* Makes every call at every parameter, and with it on a measurement, with every pattern. */
+/* Makes every call at every parameter, and with it at a sixteenth and on a measurement, with every pattern. */
 static void measure_parameters(void)
 {
     static const struct {
-        uint32_t num, den;
+        uint32_t num, den, j;
         size_t length;
         float ohms[MAX_MEASURED];
     } given[] = {
-        {0, 1, 0, {0}},
-        {1, 2, 1, {50}},
-        {1, 3, 2, {50, -0.1f}},
-        {65535, 65536, 3, {50.0003f, -0.1f, 0.25f}},
-        {7, 7, 3, {-16384, 1e-45f, 0}},
-        {1, 0, 3, {0, 0, -1}},
-        {8, 7, 3, {16384, 0, 1}},
+        {0, 1, 0, 0, {0}},
+        {1, 2, 8, 1, {50}},
+        {1, 3, 5, 2, {50, -0.1f}},
+        {65535, 65536, 15, 3, {50.0003f, -0.1f, 0.25f}},
+        {7, 7, 16, 3, {-16384, 1e-45f, 0}},
+        {1, 0, 17, 3, {0, 0, -1}},
+        {8, 7, UINT32_MAX, 3, {16384, 0, 1}},
     };
     for (size_t p = 0; p < sizeof given / sizeof given[0]; p++) {
         num = given[p].num;
         den = given[p].den;
+        sixteenths = given[p].j;
         measured = given[p].ohms;
         measured_length = given[p].length;
         measure_calls(0x00);

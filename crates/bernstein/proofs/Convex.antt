@@ -1,7 +1,8 @@
 -- Over the rational numbers, with factors from 0 whose sum is 1, the exact table keeps an order of the control points, also up to a whole number.
 -- Assumes nothing.
 use Prim.Native.Nat.{ℕ, _+_, _≤_, _<_}
-use mathlib.Core.Path.{_≡_, sym, ap, subst, _∙_}
+use native.Mathlib.Nat.{le-refl}
+use mathlib.Core.Path.{_≡_, refl, sym, ap, ap₂, subst, _∙_}
 use lib.IntN.{pos}
 use Rattle.rational.proofs.Order.{pos-mono}
 use Rattle.rational.proofs.Rational.{ℚ, embed, embed-add, _+ℚ_, _-ℚ_, +ℚ-zero, +ℚ-invr, -ℚ-cancel}
@@ -73,6 +74,11 @@ module _ (𝓢 : Semiring) where
       let q : mix 𝓢 s t x x ≡ (s ⊕ t) ⊗ x = simp (mix, polynomial) in q ∙ ap (λ u. u ⊗ x) h ∙ one-times 𝓢 x
 
 module _ {s t : ℚ} (convex : Convex s t) where
+  -- points that are all the same have that value
+  pub table-same : (x : ℚ) (j k : ℕ) → table (mix rationals s t) (λ i. x) j k ≡ x
+  table-same x j k =
+      table-property (λ y. y ≡ x) (λ a b p q. ap₂ (mix rationals s t) p q ∙ mix-same rationals s t x (convex .unit)) (j + k) (λ i h. refl) j k (le-refl _)
+
   mix-mono : {x y x′ y′ : ℚ} → x ≤ℚ x′ → y ≤ℚ y′ → mix rationals s t x y ≤ℚ mix rationals s t x′ y′
   unfolding mix
   mix-mono p q = +ℚ-mono (*ℚ-mono-left (convex .first) p) (*ℚ-mono-left (convex .second) q)

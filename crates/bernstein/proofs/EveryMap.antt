@@ -29,7 +29,7 @@ all-at (suc m) f h k l = let (before, last) = and-both (allBelow m f) (f m) h in
     go last (no high) before = let e : m ≡ k = omega arith in subst (λ (i : ℕ). f i ≡ true) e last
 
 -- and if it does, of all
-all-of : (m : ℕ) (f : ℕ → Bool) → ((k : ℕ) → k < m → f k ≡ true) → allBelow m f ≡ true
+pub all-of : (m : ℕ) (f : ℕ → Bool) → ((k : ℕ) → k < m → f k ≡ true) → allBelow m f ≡ true
 unfolding allBelow
 all-of zero f h = refl
 all-of (suc m) f h = both-and (all-of m f (λ k l. h k (omega arith))) (h m (omega arith))

@@ -13,4 +13,5 @@ pub mod Promises
 pub mod Convex
 pub mod Curve
 pub mod Rounded
+pub mod WholeSum
 pub mod Unrounded

@@ -59,7 +59,7 @@ module _ (r : Rounding) (s t d : ℕ) (whole-weight : s + t ≡ d) (positive : 0
             (quotient-at-least d positive r z);
       }
 
-  mean-excess :
+  pub mean-excess :
       {x y x′ y′ : ℚ} (c : ℕ) → Excess c x x′ → Excess c y y′ → Excess c (mean d positive s t x y) (mean d positive s t x′ y′)
   unfolding mean
   mean-excess = mix-excess (convex-ratio d positive s t whole-weight)

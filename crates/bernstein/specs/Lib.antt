@@ -1,4 +1,5 @@
 pub mod Affine
 pub mod DeCasteljau
 pub mod Bernstein
+pub mod WholeSum
 pub mod Promises

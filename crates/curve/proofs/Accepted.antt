@@ -16,7 +16,7 @@ use Rattle.curve.specs.Limits.{maxDegree, maxDen, maxSide}
 use Rattle.curve.specs.Rect.{Coordinate, resistance, reactance, end, side, inRange, endsInRange, sidesInRange, endsOrdered, sidesOrdered}
 use Rattle.curve.specs.Curve.{point}
 use Rattle.curve.specs.Refusals.{none, _orElse_, unless, rangeRefusal, orderRefusal, curveRefusal, parameterRefusal, highestRefusal, degreeRefusal, Accepted, AcceptedAt}
-use Rattle.curve.specs.Inner.{Side, Factors, Ready}
+use Rattle.curve.specs.Inner.{Side, Held, Factors, Ready}
 use Rattle.curve.specs.Calls.{callRefusal, elevationRefusal}
 use Rattle.curve.proofs.Tests.{both, join, or-split, or-none, unless-holds, unless-none, first-holds, first-none, between-holds, between-none}
 
@@ -48,6 +48,9 @@ range-sides p t reactance = ends-sides (p .reactance) (both (endsInRange (p .res
 pub sides-range : (p : Rect) → ((x : Coordinate) (r : Rounding) → Side (side x r p)) → T (sidesInRange p)
 unfolding sidesInRange
 sides-range p h = join (endsInRange (p .resistance)) (endsInRange (p .reactance)) (sides-ends (p .resistance) (h resistance)) (sides-ends (p .reactance) (h reactance))
+
+pub range-held : (p : Rect) → T (sidesInRange p) → Held p
+range-held p t = record { at = λ x. record { at = λ r. range-sides p t x r } }
 
 -- a rectangle's order, coordinate by coordinate
 pub order-sides : (p : Rect) → T (sidesOrdered p) → (x : Coordinate) → side x down p ≤ℤ side x up p

@@ -16,11 +16,11 @@ use Rattle.curve.proofs.Accepted.{side-range}
 use Rattle.curve.proofs.Loads.{evaluated-first, first-held}
 use Rattle.curve.proofs.OhmsExact.{exact-ohms}
 
-abbrev Exactly : Coordinate → Rounding → Rect → Ohms → Type 0
+abbrev pub Exactly : Coordinate → Rounding → Rect → Ohms → Type 0
 Exactly x r p o = HasValue (ohmsAt x r o) (negative (side x r p)) (natAbs (side x r p)) stepsPerOhm
 
 -- a rectangle in range, side by side
-rect-ohms : (p : Rect) → Held p → (x : Coordinate) (r : Rounding) → Exactly x r p (ohmsOf p)
+pub rect-ohms : (p : Rect) → Held p → (x : Coordinate) (r : Rounding) → Exactly x r p (ohmsOf p)
 unfolding ohmsOf
 rect-ohms p h resistance down = exact-ohms (p .resistance .low) (side-range _ (h .at resistance .at down))
 rect-ohms p h resistance up = exact-ohms (p .resistance .high) (side-range _ (h .at resistance .at up))

@@ -22,7 +22,7 @@ use Rattle.curve.proofs.Answers.{evaluation, evaluated-accepted, evalua
 use Rattle.curve.proofs.Pieces.{right-load}
 use Rattle.curve.proofs.Ranges.{zero-first, pieces-ranged}
 
-zero-ohms : ohmsOf zeroRect ≡ zeroOhms
+pub zero-ohms : ohmsOf zeroRect ≡ zeroOhms
 unfolding ohmsOf ohm div ofInt
 zero-ohms = refl
 

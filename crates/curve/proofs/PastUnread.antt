@@ -103,7 +103,7 @@ module _ (c e : Curve) (same : SameCurve c e) where
   unread : {A : Type 0} (F : ℕ → (ℕ → Rect) → A) → F (c .degree) (point c) ≡ F (c .degree) (point e) → F (c .degree) (point c) ≡ F (e .degree) (point e)
   unread F h = h ∙ ap (λ (n : ℕ). F n (point e)) (same .degrees)
 
-  refusals : curveRefusal c ≡ curveRefusal e
+  pub refusals : curveRefusal c ≡ curveRefusal e
   unfolding curveRefusal rangeRefusal orderRefusal curveRefusalAt
   refusals = unread curveRefusalAt (refusal-agree (c .degree) (same .controls))
 

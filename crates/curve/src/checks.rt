@@ -56,7 +56,8 @@ pub fn ends_in_range(i: Interval) -> bool
     in_range(i.low) && in_range(i.high)
 }
 
-fn sides_in_range(p: Rect) -> bool
+// Whether all four sides are in range.
+pub fn sides_in_range(p: Rect) -> bool
     ensures { λ r. ⌜ r ≡ sidesInRange p ⌝ }
 {
     ends_in_range(p.resistance) && ends_in_range(p.reactance)
@@ -68,7 +69,8 @@ fn ends_ordered(i: Interval) -> bool
     i.low <= i.high
 }
 
-fn sides_ordered(p: Rect) -> bool
+// Whether in both coordinates low is at most high.
+pub fn sides_ordered(p: Rect) -> bool
     ensures { λ r. ⌜ r ≡ sidesOrdered p ⌝ }
 {
     ends_ordered(p.resistance) && ends_ordered(p.reactance)

@@ -27,8 +27,13 @@ pub use checks::first_of;
 pub use checks::is_from_one_to;
 pub use checks::refused_unless;
 
-// The check of an interval by itself: both ends are in range.
+// The checks of an interval and of a rectangle by themselves: all sides are in range, and each low is at most its high.
 pub use checks::ends_in_range;
+pub use checks::sides_in_range;
+pub use checks::sides_ordered;
+
+// A rectangle in ohms.
+pub use display::checked_ohms;
 
 // The zero rectangle and the zero curve.
 pub use zeros::zero_curve;
@@ -83,7 +88,7 @@ pub struct Ohms {
     pub xhigh: f32,
 }
 
-// The answer of evaluate. The flag `exact` of each answer tells that every map left no remainder; it is dark, false, where the call is refused.
+// The answer of evaluate, and of the reading at sixteenths. The flag `exact` of each answer tells that no division left a remainder; it is dark, false, where the call is refused.
 pub struct Evaluation {
     pub refusal: Refusal,
     pub load: Rect,

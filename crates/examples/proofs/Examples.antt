@@ -7,6 +7,8 @@ use Rattle.rational.specs.Fraction.{_+ᶠ_, _*ᶠ_, _^ᶠ_, whole, complement}
 use Rattle.bernstein.specs.Affine.{affine, affineExact}
 use Rattle.bernstein.specs.Bernstein.{choose, sumTo, term, bernstein}
 use Rattle.bernstein.specs.DeCasteljau.{allBelow, table, value, left, right, everyMap}
+use Rattle.bernstein.specs.WholeSum.{weight, totalBelow, wholeSum}
+use Rattle.sixteenths.specs.Sixteenths.{sumOf, summedSide, sideExact, summedInterval, summedLoad, summedExact, numeratorRefusal, sixteenthsRefusal, evaluatedSixteenths}
 use Rattle.columns.specs.Column.{digitsBefore, digits, text, column, valueAfter, hasMinus, signed, decode, sameBytes, readBytes, readAt}
 use Rattle.card_text.specs.Reading.{degreeOf, intervalAt, rectAt, decoded, columnRefusal, lineEndRefusal, endsRefusal, rowRefusal, rowsRefusal, shortRefusal, lengthRefusal, headerRefusal, cardRefusal, readCard}
 use Rattle.ledger.specs.Ledger.{parameter}
@@ -24,5 +26,5 @@ use Rattle.examples.specs.Shown.{resistancesFrom, resistancesShown}
 use Rattle.examples.specs.Examples.{cardCurve, exactLoad, exactResistance, examples, Agree}
 
 pub agree : Agree
-unfolding floor ceiling quotient divisible affineExact allBelow everyMap exactInterval exactRect tableExact elevatedExact elevationExact exactResistance _+ᶠ_ _*ᶠ_ _^ᶠ_ whole complement choose sumTo term bernstein parameter exactLoad digitsBefore digits text column valueAfter hasMinus signed decode sameBytes readBytes readAt degreeOf intervalAt rectAt decoded columnRefusal lineEndRefusal endsRefusal rowRefusal rowsRefusal shortRefusal lengthRefusal headerRefusal cardRefusal readCard affine table value left right inRange endsInRange sidesInRange endsOrdered sidesOrdered affineInterval affineRect tabulate pointsOf loadOf leftOf rightOf elevatedPoint elevatedOf firstFailing rangeRefusal orderRefusal curveRefusal parameterRefusal highestRefusal callRefusal elevationRefusal evaluated subdivided elevated bounded resistancesFrom resistancesShown cardCurve examples least greatest hullInterval hull hullTo boundsOf within disjoint inBox apartFrom areLimits isBox stepAt walked boxRefusal searchRefusal searched ofBits finite ohms steps bridge.stepAt stepsAbout isFrom loadRect spreadRect loadRefusal numberRefusal sideRefusal spreadRefusal enclosed
+unfolding floor ceiling quotient divisible affineExact allBelow everyMap exactInterval exactRect tableExact elevatedExact elevationExact exactResistance _+ᶠ_ _*ᶠ_ _^ᶠ_ whole complement choose sumTo term bernstein parameter exactLoad digitsBefore digits text column valueAfter hasMinus signed decode sameBytes readBytes readAt degreeOf intervalAt rectAt decoded columnRefusal lineEndRefusal endsRefusal rowRefusal rowsRefusal shortRefusal lengthRefusal headerRefusal cardRefusal readCard affine table value left right inRange endsInRange sidesInRange endsOrdered sidesOrdered affineInterval affineRect tabulate pointsOf loadOf leftOf rightOf elevatedPoint elevatedOf firstFailing rangeRefusal orderRefusal curveRefusal parameterRefusal highestRefusal callRefusal elevationRefusal evaluated subdivided elevated bounded resistancesFrom resistancesShown cardCurve examples least greatest hullInterval hull hullTo boundsOf within disjoint inBox apartFrom areLimits isBox stepAt walked boxRefusal searchRefusal searched ofBits finite ohms steps bridge.stepAt stepsAbout isFrom loadRect spreadRect loadRefusal numberRefusal sideRefusal spreadRefusal enclosed weight totalBelow wholeSum sumOf summedSide sideExact summedInterval summedLoad summedExact numeratorRefusal sixteenthsRefusal evaluatedSixteenths
 agree = refl

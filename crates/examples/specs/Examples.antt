@@ -12,6 +12,7 @@ use Rattle.curve.specs.declared.Rect.{Rect}
 use Rattle.curve.specs.Rect.{resistance}
 use Rattle.curve.specs.Curve.{point}
 use Rattle.curve.specs.Calls.{evaluated, subdivided, elevated, bounded}
+use Rattle.sixteenths.specs.Sixteenths.{evaluatedSixteenths}
 use Rattle.card_text.specs.Reading.{readCard}
 use Rattle.ledger.specs.Ordinary.{exactSide}
 use Rattle.ledger.specs.Ledger.{parameter}
@@ -183,6 +184,18 @@ examples =
     ∷ (foundShown (enclosed (LoadWithSpread fifty zero tenThousandth)) gives pos 0 ∷ pos 0 ∷ pos rectangle ∷ pos 51199 ∷ pos 51201 ∷ negsuc 0 ∷ pos 1 ∷ [])
     -- no carrier: nothing is refused, and there is no rectangle
     ∷ (foundShown (enclosed NoCarrier) gives pos 0 ∷ pos 0 ∷ pos noCarrier ∷ pos 0 ∷ pos 0 ∷ pos 0 ∷ pos 0 ∷ [])
+    -- the summed reading: values 1, 0, 3 at 8/16 give [1, 1], lit, where the staged reading gives [0, 2]
+    ∷ (ends (evaluatedSixteenths threeValues 8 .load .resistance) gives pos 1 ∷ pos 1 ∷ [])
+    ∷ (flagShown (evaluatedSixteenths threeValues 8 .exact) gives pos 1 ∷ [])
+    ∷ (ends (evaluated threeValues 8 16 .load .resistance) gives pos 0 ∷ pos 2 ∷ [])
+    -- values 0, 1 at 1/16 give [0, 1], dark, and values 0, −1 give [−1, 0]
+    ∷ (ends (evaluatedSixteenths (values 1 (pos 0 ∷ pos 1 ∷ [])) 1 .load .resistance) gives pos 0 ∷ pos 1 ∷ [])
+    ∷ (flagShown (evaluatedSixteenths (values 1 (pos 0 ∷ pos 1 ∷ [])) 1 .exact) gives pos 0 ∷ [])
+    ∷ (ends (evaluatedSixteenths (values 1 (pos 0 ∷ negsuc 0 ∷ [])) 1 .load .resistance) gives negsuc 0 ∷ pos 0 ∷ [])
+    -- j = 17 is a 15, dark, and degree 9 with j = 17 a 1
+    ∷ (evaluationShown (evaluatedSixteenths threeValues 17) gives pos 15 ∷ pos 0 ∷ pos 0 ∷ pos 0 ∷ pos 0 ∷ pos 0 ∷ [])
+    ∷ (flagShown (evaluatedSixteenths threeValues 17 .exact) gives pos 0 ∷ [])
+    ∷ (refusalShown (evaluatedSixteenths (values 9 []) 17 .refusal) gives pos 1 ∷ pos 0 ∷ [])
     ∷ []
 
 -- every example of the list is answered as the documents say

@@ -18,6 +18,9 @@ use Rattle.curve.specs.Curve.{point}
 use Rattle.curve.specs.Refusals.{refusal, none, _orElse_, unlessAt, firstFailing, rangeRefusal, orderRefusal, curveRefusal, parameterRefusal, highestRefusal}
 use Rattle.curve.specs.Calls.{callRefusal, elevationRefusal}
 use Rattle.curve.proofs.Answers.{in-both, evaluated-refusal, subdivided-refusal, elevated-refusal, bounded-refusal}
+use Rattle.sixteenths.specs.Weights.{sixteenths}
+use Rattle.sixteenths.specs.Sixteenths.{numeratorRefusal, sixteenthsRefusal}
+use Rattle.sixteenths.proofs.Answers.{summed-refusal}
 use Rattle.card_text.specs.declared.CardWritten.{CardWritten}
 use Rattle.card_text.specs.Card.{headerLength, cardLength, rowAt}
 use Rattle.card_text.specs.Reading.{wellFormed, decoded, columnRefusal, lineEndRefusal, endsRefusal, rowRefusal, rowsRefusal, shortRefusal, lengthRefusal, headerRefusal, cardRefusal}
@@ -42,10 +45,10 @@ use Rattle.foreign.specs.Promises.{Listed, ListedAnswers}
 listed-none : Listed none
 listed-none = record { known = omega arith; zero = λ e. refl }
 
-listed-some : (number place : ℕ) → number < 14 → Listed (refusal (suc number) place)
+listed-some : (number place : ℕ) → number < 15 → Listed (refusal (suc number) place)
 listed-some number place few = record { known = few; zero = λ e. absurd (omega arith) }
 
-unless : (ok : Bool) (number place : ℕ) → number < 14 → Listed (unlessAt ok (suc number) place)
+unless : (ok : Bool) (number place : ℕ) → number < 15 → Listed (unlessAt ok (suc number) place)
 unless true number place few = listed-none
 unless false number place few = listed-some number place few
 
@@ -57,7 +60,7 @@ infixr 4 _or_
 _or_ : {a b : Refusal} → Listed a → Listed b → Listed (a orElse b)
 _or_ {a} first second = either (eqb (a .number) 0) second first
 
-failing : (ok : ℕ → Bool) (number m from : ℕ) → number < 14 → Listed (firstFailing ok (suc number) m from)
+failing : (ok : ℕ → Bool) (number m from : ℕ) → number < 15 → Listed (firstFailing ok (suc number) m from)
 unfolding firstFailing
 failing ok number zero from few = listed-none
 failing ok number (suc m) from few = either (ok from) (failing ok number m (suc from) few) (listed-some number from few)
@@ -75,6 +78,10 @@ call-listed : (c : Curve) (num den : ℕ) → Listed (callRefusal c num den)
 unfolding callRefusal parameterRefusal
 call-listed c num den =
     curve-listed c or unless (leb 1 den && leb den maxDen) 3 0 (omega arith) or unless (leb num den) 4 0 (omega arith)
+
+summed-listed : (c : Curve) (j : ℕ) → Listed (sixteenthsRefusal c j)
+unfolding sixteenthsRefusal numeratorRefusal
+summed-listed c j = curve-listed c or unless (leb j sixteenths) 14 0 (omega arith)
 
 elevation-listed : (c : Curve) → Listed (elevationRefusal c)
 unfolding elevationRefusal highestRefusal
@@ -156,6 +163,7 @@ pub listed-answers : ListedAnswers
 listed-answers =
     record {
       evaluating = λ c num den. rw (evaluated-refusal c num den) (call-listed c num den);
+      summing = λ c j. rw (summed-refusal c j) (summed-listed c j);
       subdividing = λ c num den. rw (subdivided-refusal c num den) (call-listed c num den);
       elevating = λ c. rw (elevated-refusal c) (elevation-listed c);
       bounding = λ c. rw (bounded-refusal c) (curve-listed c);

@@ -9,6 +9,7 @@ use Rattle.curve.specs.declared.Curve.{Curve}
 use Rattle.curve.specs.declared.Refusal.{Refusal}
 use Rattle.curve.specs.Refusals.{none, _orElse_}
 use Rattle.curve.specs.Calls.{evaluated, subdivided, elevated, bounded}
+use Rattle.sixteenths.specs.Sixteenths.{evaluatedSixteenths}
 use Rattle.card_text.specs.Reading.{readCard}
 use Rattle.card_text.specs.Writing.{writeCard}
 use Rattle.search.specs.Search.{searched}
@@ -27,14 +28,15 @@ Unpacked =
 abbrev pub CurveLength : Type 0
 CurveLength = (c : Curve) → length (curveNumbers c) ≡ 1 + 4 * (c .degree + 1)
 
--- a refusal with one of the listed numbers 1 to 14, or none
+-- a refusal with one of the listed numbers 1 to 15, or none
 pub record Listed (r : Refusal) : Type 0 where
-  pub known : r .number ≤ 14
+  pub known : r .number ≤ 15
   pub zero : r .number ≡ 0 → r ≡ none
 
 -- so is the refusal of every call within, and with that of a list that is too short behind it
 pub record ListedAnswers : Type 0 where
   pub evaluating : (c : Curve) (num den : ℕ) → Listed (evaluated c num den .refusal)
+  pub summing : (c : Curve) (j : ℕ) → Listed (evaluatedSixteenths c j .refusal)
   pub subdividing : (c : Curve) (num den : ℕ) → Listed (subdivided c num den .refusal)
   pub elevating : (c : Curve) → Listed (elevated c .refusal)
   pub bounding : (c : Curve) → Listed (bounded c .refusal)

@@ -1,6 +1,7 @@
 // Rectangles, curves and measurements from the numbers that a caller lends. Sides that a slice does not have count as zero.
 ghost use mathlib.Core.Path.{_≡_};
-ghost use Prim.Native.Nat.{_*_, _≤_};
+ghost use Prim.Native.Nat.{_+_, _*_, _≤_};
+ghost use lib.ListN.{length};
 ghost use Rattle.curve.specs.Limits.{maxDegree};
 ghost use Rattle.foreign.specs.Numbers.{sideAt, rectAt, curveFrom, ohmsAt, measurementFrom};
 ghost use Rattle.foreign.specs.Inner.{lastPlace};
@@ -20,8 +21,25 @@ fn side_at(sides: &[i32], k: usize) -> i32
     if k < sides.len() { sides[k] } else { 0 }
 }
 
-// The rectangle whose sides begin at an index, which is one of a curve's.
-pub fn rect_at(sides: &[i32], at: usize) -> Rect
+// The rectangle whose sides begin at an index, where the slice has all four.
+fn whole_rect_at(sides: &[i32], at: usize) -> Rect
+    requires { ⌜ at + 4 ≤ length (now sides) ⌝ }
+    ensures { λ r. ⌜ r ≡ rectAt (now (sides .entry)) at ⌝ }
+{
+    Rect {
+        resistance: Interval {
+            low: sides[at],
+            high: sides[at + 1],
+        },
+        reactance: Interval {
+            low: sides[at + 2],
+            high: sides[at + 3],
+        },
+    }
+}
+
+// The same where some may be missing.
+fn short_rect_at(sides: &[i32], at: usize) -> Rect
     requires { ⌜ at ≤ 4 * maxDegree ⌝ }
     ensures { λ r. ⌜ r ≡ rectAt (now (sides .entry)) at ⌝ }
 {
@@ -35,6 +53,17 @@ pub fn rect_at(sides: &[i32], at: usize) -> Rect
             high: side_at(sides, at + 3),
         },
     }
+}
+
+// The same for any slice, at an index that is one of a curve's.
+pub fn rect_at(sides: &[i32], at: usize) -> Rect
+    requires { ⌜ at ≤ 4 * maxDegree ⌝ }
+    ensures { λ r. ⌜ r ≡ rectAt (now (sides .entry)) at ⌝ }
+{
+    if at + RECT_LENGTH <= sides.len() {
+        return whole_rect_at(sides, at);
+    }
+    short_rect_at(sides, at)
 }
 
 // The last place of a record that a curve of this degree fills.

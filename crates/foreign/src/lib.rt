@@ -2,6 +2,7 @@
 // Each takes any slices, and gives what the call within gives (specs/Calls.antt) or refuses; a refused call stores nothing.
 ghost use mathlib.Core.Path.{_≡_};
 ghost use Rattle.curve.specs.Calls.{evaluated, subdivided, elevated, bounded};
+ghost use Rattle.sixteenths.specs.Sixteenths.{evaluatedSixteenths};
 ghost use Rattle.card_text.specs.Reading.{readCard};
 ghost use Rattle.card_text.specs.Writing.{writeCard, bytesAfter};
 ghost use Rattle.search.specs.Search.{searched};
@@ -54,6 +55,27 @@ pub extern "C" fn jusqani_evaluate(
     ensures { λ r. ⌜ GivesEvaluation (evaluated (curveFrom degree (now (sides .entry))) num den) (now (load .entry)) (now (ohms .entry)) (now (exact .entry)) r (now (load .exit)) (now (ohms .exit)) (now (exact .exit)) ⌝ }
 {
     let answer = curve::evaluate(curve_from(degree, sides), num, den);
+    let first = with_room(answer.refusal, RECT_LENGTH, load.len());
+    let refusal = with_room(first, RECT_LENGTH, ohms.len());
+    put_rect(load, refusal, answer.load);
+    put_ohms(ohms, refusal, answer.ohms);
+    put_exact(exact, refusal, answer.exact);
+    answer_of(refusal)
+}
+
+// The load at j/16 by the Bernstein sum rounded once, its ohms, and whether nothing was rounded; refusals 1 to 3, 15 and 12.
+#[no_mangle]
+pub extern "C" fn jusqani_evaluate_sixteenths(
+    degree: u32,
+    sides: &[i32],
+    j: u32,
+    load: &mut [i32],
+    ohms: &mut [f32],
+    exact: &mut u32,
+) -> u64
+    ensures { λ r. ⌜ GivesEvaluation (evaluatedSixteenths (curveFrom degree (now (sides .entry))) j) (now (load .entry)) (now (ohms .entry)) (now (exact .entry)) r (now (load .exit)) (now (ohms .exit)) (now (exact .exit)) ⌝ }
+{
+    let answer = sixteenths::evaluate_sixteenths(curve_from(degree, sides), j);
     let first = with_room(answer.refusal, RECT_LENGTH, load.len());
     let refusal = with_room(first, RECT_LENGTH, ohms.len());
     put_rect(load, refusal, answer.load);

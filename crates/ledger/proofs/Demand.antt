@@ -15,15 +15,18 @@ use Rattle.curve.specs.declared.Refusal.{Refusal}
 use Rattle.curve.specs.Limits.{maxDegree}
 use Rattle.curve.specs.Curve.{leftOf, rightOf, elevatedOf}
 use Rattle.curve.specs.Refusals.{highestRefusal, Accepted, AcceptedAt}
-use Rattle.curve.proofs.Accepted.{parameter-facts, number-accepted-at, call-parameter, elevation-highest, number-highest}
+use Rattle.curve.proofs.Accepted.{accepted-facts, parameter-facts, number-accepted-at, call-parameter, elevation-highest, number-highest}
 use Rattle.curve.proofs.Answers.{evaluated-accepted, evaluated-refusal, subdivided-accepted, subdivided-refusal, elevated-accepted, elevated-refusal}
 use Rattle.curve.proofs.Pieces.{left-accepted, right-accepted, elevatedOf-accepted, left-degree, right-degree, elevated-degree}
+use Rattle.sixteenths.specs.Weights.{sixteenths}
+use Rattle.sixteenths.proofs.Answers.{number-numerator, refusal-numerator, summed-accepted, summed-refusal}
+use Rattle.sixteenths.proofs.Promises.{sixteenth-accepted}
 use Rattle.ledger.specs.Ordinary.{Ordinary, InsideOf}
-use Rattle.ledger.specs.Ledger.{Ledger, Call, evaluate, subdivide, elevate, left, right, opened, parameter, placeOf, refused, entered, after, refusalOf, answerOf, leaves}
+use Rattle.ledger.specs.Ledger.{Ledger, Call, evaluate, evaluateSixteenths, subdivide, elevate, left, right, opened, parameter, placeOf, refused, entered, after, refusalOf, answerOf, leaves}
 use Rattle.ledger.specs.Claim.{Sound, AtCall, Along, Demand, OneEvaluation}
 use Rattle.ledger.proofs.Stretch.{Stretch, whole-stretch, joined, renamed}
 use Rattle.ledger.proofs.Steps.{left-stretch, right-stretch, elevated-stretch}
-use Rattle.ledger.proofs.Evaluation.{sound}
+use Rattle.ledger.proofs.Evaluation.{staged-reads, summed-reads, reads-weaken, sound}
 
 -- what is kept along the list: the present curve is accepted, of the ledger's degree, and the stretch of the starting curve that the ledger says
 pub record Kept (c : Curve) (l : Ledger) (now : Curve) : Type 0 where
@@ -45,6 +48,7 @@ module _ (c : Curve) (l : Ledger) (now : Curve) (kept : Kept c l now) where
   -- the ledger's refusal is the call's
   pub same-refusal : (call : Call) → refusalOf now call ≡ refused l call
   same-refusal (evaluate num den) = evaluated-refusal now num den ∙ call-parameter now num den (kept .accepted)
+  same-refusal (evaluateSixteenths j) = summed-refusal now j ∙ refusal-numerator now j (kept .accepted)
   same-refusal (subdivide num den piece) = subdivided-refusal now num den ∙ call-parameter now num den (kept .accepted)
   same-refusal elevate = elevated-refusal now ∙ elevation-highest now (kept .accepted) ∙ ap highestRefusal (kept .degrees)
 
@@ -54,7 +58,14 @@ module _ (c : Curve) (l : Ledger) (now : Curve) (kept : Kept c l now) where
       let at : AcceptedAt num den = sym (same-refusal (evaluate num den)) ∙ h in
       subst₂ (λ (n : ℕ) (p : Rect). Sound c o (placeOf l (parameter num den)) (l .sum + n) p) (kept .degrees)
       (ap (λ e. e .load) (sym (evaluated-accepted now num den (kept .accepted) at)))
-      (sound c now _ _ _ (kept .stretch) num den (parameter-facts num den at .factors) _ (place-is l (parameter num den)) o inside)
+      (sound c now _ _ _ (kept .stretch) num den (parameter-facts num den at .factors) _ (place-is l (parameter num den)) _ _ (staged-reads now num den (parameter-facts num den at .factors)) o inside)
+  evaluation-sound o inside (evaluateSixteenths j) = λ h.
+      let most = number-numerator j (ap (λ (r : Refusal). r .number) (sym (same-refusal (evaluateSixteenths j)) ∙ h)) in
+      let f = parameter-facts j sixteenths (sixteenth-accepted j most) .factors in
+      let some = accepted-facts now (kept .accepted) .some in
+      subst₂ (λ (n : ℕ) (p : Rect). Sound c o (placeOf l (parameter j sixteenths)) (l .sum + n) p) (kept .degrees)
+      (ap (λ e. e .load) (sym (summed-accepted now j (kept .accepted) most)))
+      (sound c now _ _ _ (kept .stretch) j sixteenths f _ (place-is l (parameter j sixteenths)) _ _ (reads-weaken now j sixteenths f _ 1 (now .degree) some (summed-reads now j f)) o inside)
   evaluation-sound o inside (subdivide num den piece) = tt
   evaluation-sound o inside elevate = tt
 
@@ -70,6 +81,7 @@ module _ (c : Curve) (l : Ledger) (now : Curve) (kept : Kept c l now) where
   -- an accepted call keeps it
   entered-kept : (call : Call) → refused l call .number ≡ 0 → Kept c (entered l call) (answerOf now call)
   entered-kept (evaluate num den) h = kept
+  entered-kept (evaluateSixteenths j) h = kept
   entered-kept (subdivide num den left) h =
       let at = number-accepted-at num den h in
       subst (λ s. Kept c (entered l (subdivide num den left)) (s .left)) (sym (subdivided-accepted now num den (kept .accepted) at))
@@ -114,4 +126,4 @@ demand c accepted o inside calls = along c o inside calls (opened c) c (opened-k
 pub one-evaluation : OneEvaluation
 one-evaluation c accepted o inside num den at =
     subst₂ (λ (n : ℕ) (p : Rect). Sound c o (parameter num den) n p) (zero-add (c .degree)) (ap (λ e. e .load) (sym (evaluated-accepted c num den accepted at)))
-    (sound c c _ _ _ (whole-stretch c) num den (parameter-facts num den at .factors) (parameter num den) (zero-+ℚ _ ∙ one-*ℚ _) o inside)
+    (sound c c _ _ _ (whole-stretch c) num den (parameter-facts num den at .factors) (parameter num den) (zero-+ℚ _ ∙ one-*ℚ _) _ _ (staged-reads c num den (parameter-facts num den at .factors)) o inside)

@@ -5,3 +5,4 @@ pub mod Evaluation
 pub mod Demand
 pub mod Covered
 pub mod Lit
+pub mod Summed

@@ -11,8 +11,10 @@ use Rattle.curve.specs.declared.Rect.{Rect}
 use Rattle.curve.specs.Rect.{Coordinate, side, Bounded}
 use Rattle.curve.specs.Refusals.{none, Accepted, AcceptedAt}
 use Rattle.curve.specs.Calls.{evaluated}
+use Rattle.sixteenths.specs.Weights.{sixteenths}
+use Rattle.sixteenths.specs.Sixteenths.{evaluatedSixteenths}
 use Rattle.ledger.specs.Ordinary.{Ordinary, InsideOf, loadAt, exactSide}
-use Rattle.ledger.specs.Ledger.{Ledger, Call, evaluate, subdivide, elevate, opened, parameter, placeOf, refused, after, refusalOf, leaves}
+use Rattle.ledger.specs.Ledger.{Ledger, Call, evaluate, evaluateSixteenths, subdivide, elevate, opened, parameter, placeOf, refused, after, refusalOf, leaves}
 
 -- a side is not farther out than the exact side by more than d steps
 abbrev pub Near : Rounding → ℕ → ℤ → Frac → Type 0
@@ -24,10 +26,12 @@ pub record Sound (c : Curve) (o : Ordinary) (place : Frac) (d : ℕ) (load : Rec
   pub holds : (x : Coordinate) (r : Rounding) → Bounded r (loadAt o x place) (side x r load)
   pub near : (x : Coordinate) (r : Rounding) → Near r d (side x r load) (exactSide c x r place)
 
--- what is claimed at a call, of the curve that it gets: at an evaluation that is accepted, a sound rectangle
+-- what is claimed at a call, of the curve that it gets: at an evaluation of either kind that is accepted, a sound rectangle
 abbrev pub AtCall : Curve → Ordinary → Ledger → Curve → Call → Type 0
 AtCall c o l now (evaluate num den) =
     evaluated now num den .refusal ≡ none → Sound c o (placeOf l (parameter num den)) (l .sum + l .degree) (evaluated now num den .load)
+AtCall c o l now (evaluateSixteenths j) =
+    evaluatedSixteenths now j .refusal ≡ none → Sound c o (placeOf l (parameter j sixteenths)) (l .sum + l .degree) (evaluatedSixteenths now j .load)
 AtCall c o l now (subdivide num den piece) = Unit {0}
 AtCall c o l now elevate = Unit {0}
 
@@ -41,7 +45,7 @@ Along c o l now (call ∷ calls) =
 abbrev pub Demand : Type 0
 Demand = (c : Curve) → Accepted c → (o : Ordinary) → InsideOf o c → (calls : List Call) → Along c o (opened c) c calls
 
--- in the safety office's words, of one evaluation of one accepted curve: the load of every ordinary curve inside lies in the rectangle shown, and no side is more than the degree in steps beyond the exact one
+-- in the safety office's words, of one staged evaluation of one accepted curve: the load of every ordinary curve inside lies in the rectangle shown, and no side is more than the degree in steps beyond the exact one
 abbrev pub OneEvaluation : Type 0
 OneEvaluation =
     (c : Curve) → Accepted c → (o : Ordinary) → InsideOf o c → (num den : ℕ) → AcceptedAt num den →

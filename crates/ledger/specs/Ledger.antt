@@ -11,15 +11,17 @@ use Rattle.curve.specs.declared.Refusal.{Refusal}
 use Rattle.curve.specs.declared.Subdivision.{Subdivision}
 use Rattle.curve.specs.Refusals.{parameterRefusal, highestRefusal}
 use Rattle.curve.specs.Calls.{evaluated, subdivided, elevated}
+use Rattle.sixteenths.specs.Sixteenths.{numeratorRefusal, evaluatedSixteenths}
 
 -- the piece that is kept of a subdivision
 pub data Piece : Type 0 where
   left : Piece
   right : Piece
 
--- a call of the list, with any numbers: an evaluation at num/den (the paper's reading), a subdivision at num/den with the piece that is kept (its cut), an elevation (its raising)
+-- a call of the list, with any numbers: an evaluation at num/den (the paper's reading), one at j/16 by the sum (its second reading), a subdivision at num/den with the piece that is kept (its cut), an elevation (its raising)
 pub data Call : Type 0 where
   evaluate : ℕ → ℕ → Call
+  evaluateSixteenths : ℕ → Call
   subdivide : ℕ → ℕ → Piece → Call
   elevate : Call
 
@@ -32,12 +34,14 @@ kept right s = s .right
 -- the refusal that a call gives for the curve it gets
 abbrev pub refusalOf : Curve → Call → Refusal
 refusalOf c (evaluate num den) = evaluated c num den .refusal
+refusalOf c (evaluateSixteenths j) = evaluatedSixteenths c j .refusal
 refusalOf c (subdivide num den piece) = subdivided c num den .refusal
 refusalOf c elevate = elevated c .refusal
 
 -- the curve that a call would answer; an evaluation hands on the one it got
 abbrev pub answerOf : Curve → Call → Curve
 answerOf c (evaluate num den) = c
+answerOf c (evaluateSixteenths j) = c
 answerOf c (subdivide num den piece) = kept piece (subdivided c num den)
 answerOf c elevate = elevated c .curve
 
@@ -63,6 +67,7 @@ parameter num den = record { upper = pos num; lower = suc (pred den); positive =
 -- the refusal, as what is fed and held tells it
 abbrev pub refused : Ledger → Call → Refusal
 refused l (evaluate num den) = parameterRefusal num den
+refused l (evaluateSixteenths j) = numeratorRefusal j
 refused l (subdivide num den piece) = parameterRefusal num den
 refused l elevate = highestRefusal (l .degree)
 
@@ -73,6 +78,7 @@ placeOf l t = l .start +ᶠ l .width *ᶠ t
 -- the ledger after an accepted call
 abbrev pub entered : Ledger → Call → Ledger
 entered l (evaluate num den) = l
+entered l (evaluateSixteenths j) = l
 entered l (subdivide num den left) =
     record { degree = l .degree; start = l .start; width = l .width *ᶠ parameter num den; sum = l .sum + l .degree }
 entered l (subdivide num den right) =

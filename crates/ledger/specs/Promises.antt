@@ -1,17 +1,20 @@
--- What is promised of the pieces of a subdivision, that the left one covers the first part of its parent's stretch and the right one the rest; and of a lit exact flag, that every side is the exact one.
+-- What is promised of the pieces of a subdivision, that the left one covers the first part of its parent's stretch and the right one the rest; of a lit exact flag, that every side is the exact one; and of the summed reading, how near its sides are to the exact ones.
 -- Assumes nothing.
 use mathlib.Core.Path.{_≡_}
 use mathlib.Core.Bool.{true}
-use Prim.Native.Nat.{ℕ, _+_, _-_, _≤_}
-use Rattle.rational.specs.Rounding.{Rounding}
-use Rattle.rational.specs.Fraction.{Frac, Equal, _+ᶠ_, _*ᶠ_, whole, complement}
+use Prim.Native.Nat.{ℕ, _+_, _-_, _^_, _≤_}
+use lib.IntN.{ℤ, pos}
+use Rattle.rational.specs.Rounding.{Rounding, down, up}
+use Rattle.rational.specs.Fraction.{Frac, Equal, _+ᶠ_, _*ᶠ_, _<ᶠ_, whole, complement}
 use Rattle.bernstein.specs.Affine.{exactAffine}
 use Rattle.bernstein.specs.DeCasteljau as DeCasteljau
 use Rattle.curve.specs.declared.Curve.{Curve}
-use Rattle.curve.specs.Rect.{Coordinate, side}
+use Rattle.curve.specs.Rect.{Coordinate, side, Bounded}
 use Rattle.curve.specs.Curve.{point}
 use Rattle.curve.specs.Refusals.{Accepted, AcceptedAt}
 use Rattle.curve.specs.Calls.{evaluated, subdivided, elevated}
+use Rattle.sixteenths.specs.Weights.{sixteenths}
+use Rattle.sixteenths.specs.Sixteenths.{sumOf, evaluatedSixteenths}
 use Rattle.ledger.specs.Ordinary.{Ordinary, InsideOf, loadAt, exactSide}
 use Rattle.ledger.specs.Ledger.{Piece, left, right, kept, parameter}
 
@@ -66,3 +69,31 @@ ExactElevation =
     (c : Curve) → elevated c .exact ≡ true →
     (x : Coordinate) (r : Rounding) (k : ℕ) → k ≤ c .degree + 1 →
     Equal (whole (side x r (point (elevated c .curve) k))) (raised (edge r c) x k)
+
+-- ---- the summed reading at j/16, of the curve that it is given
+
+-- the sum over the weights is 16 to the power n times the exact side, the Bernstein sum
+abbrev pub SumIsExact : Type 0
+SumIsExact =
+    (c : Curve) (j : ℕ) → j ≤ sixteenths → (x : Coordinate) (r : Rounding) →
+    Equal (whole (sumOf c j x r)) (exactSide c x r (parameter j sixteenths) *ᶠ whole (pos (sixteenths ^ c .degree)))
+
+-- a side is strictly less than one step beyond the exact side
+abbrev pub LessThanAStep : Rounding → ℤ → Frac → Type 0
+LessThanAStep down s exact = exact <ᶠ whole s +ᶠ whole (pos 1)
+LessThanAStep up s exact = whole s <ᶠ exact +ᶠ whole (pos 1)
+
+-- no side is short of the exact one, and each is strictly less than one step beyond it
+abbrev pub WithinAStep : Type 0
+WithinAStep =
+    (c : Curve) (j : ℕ) → Accepted c → j ≤ sixteenths → (x : Coordinate) (r : Rounding) →
+    let s = side x r (evaluatedSixteenths c j .load) in
+    let exact = exactSide c x r (parameter j sixteenths) in
+    Bounded r exact s × LessThanAStep r s exact
+
+-- a lit one's sides are the exact sides
+abbrev pub ExactSum : Type 0
+ExactSum =
+    (c : Curve) (j : ℕ) → evaluatedSixteenths c j .exact ≡ true →
+    (x : Coordinate) (r : Rounding) →
+    Equal (whole (side x r (evaluatedSixteenths c j .load))) (exactSide c x r (parameter j sixteenths))

@@ -9,10 +9,10 @@ use lib.Signed.{_≤ℤ_}
 use Rattle.rational.specs.Rounding.{Rounding, quotient}
 use Rattle.rational.specs.Fraction.{Frac, _*ᶠ_, _^ᶠ_, whole}
 use Rattle.rational.proofs.Whole.{mul-assoc, one-mul}
-use Rattle.rational.proofs.Order.{pos-mono, *ℤ-mono}
-use Rattle.rational.proofs.Quotient.{above, below, quotient-upper, quotient-lower}
+use Rattle.rational.proofs.Order.{pos-mono, *ℤ-mono, ≤ℤ-antisymm}
+use Rattle.rational.proofs.Quotient.{above, below, quotient-upper, quotient-lower, quotient-greatest, quotient-least}
 use Rattle.rational.proofs.Rational.{rational-ring, ℚ, rat, rat-equal, rat-mul, _+ℚ_, _*ℚ_, embed, embed-add, embed-mul, *ℚ-one, *ℚ-comm, *ℚ-assoc, *ℚ-distrib-right}
-use Rattle.rational.proofs.RationalOrder.{_≤ℚ_, ≤ℚ-of, *ℚ-nonneg, embed-mono}
+use Rattle.rational.proofs.RationalOrder.{_≤ℚ_, ≤ℚ-of, ≤ℚ-refl, *ℚ-nonneg, *ℚ-mono-right, embed-mono, embed-reflects}
 
 module _ (d : ℕ) (positive : 0 < d) where
   -- z / d
@@ -77,6 +77,25 @@ module _ (d : ℕ) (positive : 0 < d) where
   quotient-at-least r z = subst (λ x. ratio z ≤ℚ x)
       (more (quotient r z d *ℤ pos d) (pos (below r)) ∙ ap (λ x. x +ℚ embed (pos (below r))) (ratio-whole (quotient r z d)))
       (ratio-mono (quotient-lower d positive r z))
+
+  -- an exact quotient that is a whole number
+  pub ratio-embed : (m z : ℤ) → ratio z ≡ embed m → z ≡ m *ℤ pos d
+  ratio-embed m z h =
+      let same = sym (ratio-mul z) ∙ ap (λ x. x *ℚ embed (pos d)) h ∙ sym (embed-mul m (pos d)) in
+      ≤ℤ-antisymm (embed-reflects z (m *ℤ pos d) (subst (λ x. embed z ≤ℚ x) same (≤ℚ-refl (embed z)))) (embed-reflects (m *ℤ pos d) z (subst (λ x. x ≤ℚ embed z) same (≤ℚ-refl (embed z))))
+
+  -- a whole number on one side of the exact quotient is on that side of the rounded one
+  pub below-quotient : (r : Rounding) (m z : ℤ) → embed m ≤ℚ ratio z → m ≤ℤ quotient r z d
+  below-quotient r m z h =
+      quotient-greatest d positive r m z
+      (embed-reflects (m *ℤ pos d) z
+      (subst₂ (λ x y. x ≤ℚ y) (sym (embed-mul m (pos d))) (ratio-mul z) (*ℚ-mono-right (embed-mono (pos-mono (omega arith))) h)))
+
+  pub above-quotient : (r : Rounding) (m z : ℤ) → ratio z ≤ℚ embed m → quotient r z d ≤ℤ m
+  above-quotient r m z h =
+      quotient-least d positive r m z
+      (embed-reflects z (m *ℤ pos d)
+      (subst₂ (λ x y. x ≤ℚ y) (ratio-mul z) (sym (embed-mul m (pos d))) (*ℚ-mono-right (embed-mono (pos-mono (omega arith))) h)))
 
   -- a combination of whole numbers with the weights s / d and t / d
   pub ratio-affine : (s t a b : ℤ) → ratio (s *ℤ a +ℤ t *ℤ b) ≡ ratio s *ℚ embed a +ℚ ratio t *ℚ embed b

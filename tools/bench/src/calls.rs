@@ -1,7 +1,7 @@
 //! The calls that are timed, each on the same input and with buffers of its own, and how the sides and the
 //! flag of its result are read off its buffers. Only the calls are timed.
 
-use crate::{plain, plain_enclose};
+use crate::{plain, plain_enclose, plain_sixteenths};
 use jusqani::{raw, CURVE_LENGTH, MAX_DEGREE, PLACES, RECT_LENGTH};
 
 /// The sides of a curve of the highest degree, and of the two pieces of one.
@@ -15,13 +15,20 @@ pub struct Input {
     pub den: u32,
 }
 
+/// What both sides are given to evaluate at a sixteenth: a curve of the highest degree and j.
+pub struct AtSixteenth {
+    pub sides: [i32; CURVE_SIDES],
+    pub j: u32,
+}
+
 /// What both sides are given to enclose: a resistance and a reactance in ohms, with or without a spread.
 pub type Measured<const NUMBERS: usize> = [f32; NUMBERS];
 pub const PLAIN_LOAD: usize = 2;
 pub const WITH_SPREAD: usize = 3;
 
-/// The buffers for the results: ours are as include/jusqani.h has them, plain Rust's are sides alone. Each
-/// has a flag of its own, which tells whether the result is exact, or what was found.
+/// The buffers for the results: ours are as include/jusqani.h has them, plain Rust's are sides, and at a
+/// sixteenth ohms too. Each has a flag of its own, which tells whether the result is exact, or what was
+/// found.
 pub struct Buffers {
     load: [i32; RECT_LENGTH],
     ohms: [f32; RECT_LENGTH],
@@ -29,6 +36,7 @@ pub struct Buffers {
     right: [i32; CURVE_LENGTH],
     flag: u32,
     plain: [i32; PIECES_SIDES],
+    plain_ohms: [f32; RECT_LENGTH],
     plain_flag: u32,
 }
 
@@ -43,6 +51,7 @@ impl Buffers {
         right: [0; CURVE_LENGTH],
         flag: NO_FLAG,
         plain: [0; PIECES_SIDES],
+        plain_ohms: [0.0; RECT_LENGTH],
         plain_flag: NO_FLAG,
     };
 }
@@ -76,6 +85,37 @@ pub const EVALUATE: Operation<Input> = Operation {
         result: |out| (out.plain[..RECT_LENGTH].to_vec(), out.plain_flag),
     },
 };
+
+pub const SIXTEENTHS: Operation<AtSixteenth> = Operation {
+    name: "sixteenths",
+    ours: Call {
+        run: |AtSixteenth { sides, j }, out| {
+            let (load, ohms, exact) = (&mut out.load, &mut out.ohms, &mut out.flag);
+            raw::evaluate_sixteenths(MAX_DEGREE, sides, *j, load, ohms, exact)
+        },
+        result: |out| (with_ohms(&out.load, &out.ohms), out.flag),
+    },
+    plain: Call {
+        run: |AtSixteenth { sides, j }, out| {
+            let (load, ohms, exact) = (
+                &mut out.plain[..RECT_LENGTH],
+                &mut out.plain_ohms,
+                &mut out.plain_flag,
+            );
+            plain_sixteenths::evaluate_sixteenths(MAX_DEGREE, sides, *j, load, ohms, exact)
+        },
+        result: |out| {
+            let load = &out.plain[..RECT_LENGTH];
+            (with_ohms(load, &out.plain_ohms), out.plain_flag)
+        },
+    },
+};
+
+/// A load's sides, and behind them the bits of the ohms.
+fn with_ohms(load: &[i32], ohms: &[f32]) -> Vec<i32> {
+    let bits = ohms.iter().map(|ohms| ohms.to_bits() as i32);
+    load.iter().copied().chain(bits).collect()
+}
 
 pub const SUBDIVIDE: Operation<Input> = Operation {
     name: "subdivide",

@@ -1,14 +1,15 @@
-//! Times our evaluate, subdivide and enclose beside plain Rust: one process, the same inputs, rounds in
-//! turn. It prints the median time of a call on each side, and the median and the middle half of the
-//! ratios, ours to plain.
+//! Times our evaluate, subdivide, evaluate_sixteenths and enclose beside plain Rust: one process, the same
+//! inputs, rounds in turn. It prints the median time of a call on each side, and the median and the middle
+//! half of the ratios, ours to plain.
 #![forbid(unsafe_code)]
 
 mod calls;
 mod plain;
 mod plain_enclose;
+mod plain_sixteenths;
 
-use calls::{enclose, Buffers, Call, Input, Measured, Operation};
-use calls::{CURVE_SIDES, EVALUATE, PLAIN_LOAD, SUBDIVIDE, WITH_SPREAD};
+use calls::{enclose, AtSixteenth, Buffers, Call, Input, Measured, Operation};
+use calls::{CURVE_SIDES, EVALUATE, PLAIN_LOAD, SIXTEENTHS, SUBDIVIDE, WITH_SPREAD};
 use jusqani::{MAX_DEGREE, MAX_DEN};
 use second::draw::curve;
 use second::given::Given;
@@ -23,6 +24,9 @@ const INPUTS: usize = 256;
 /// machine does out of most of them.
 const TIMES: usize = 2;
 const ROUNDS: usize = 2_001;
+/// The seventeen places j/16, each on so many curves.
+const SIXTEENTH_PLACES: usize = 17;
+const SIXTEENTH_CURVES: usize = 32;
 /// A measurement takes a few nanoseconds, so that a round has more of them; and so many different ones that
 /// the processor does not learn by heart which way each one branches.
 const MEASURED: usize = 4_096;
@@ -32,7 +36,10 @@ const LOAD_OHMS: f64 = 4_000.0;
 const SPREAD_OHMS: f64 = 4.0;
 
 fn main() -> ExitCode {
-    match curves().and_then(|()| measurements()) {
+    match curves()
+        .and_then(|()| sixteenths())
+        .and_then(|()| measurements())
+    {
         Ok(()) => ExitCode::SUCCESS,
         Err(message) => {
             println!("FAILED: {message}");
@@ -50,6 +57,15 @@ fn curves() -> Result<(), String> {
     );
     side_by_side(&EVALUATE, &inputs, TIMES)?;
     side_by_side(&SUBDIVIDE, &inputs, TIMES)
+}
+
+fn sixteenths() -> Result<(), String> {
+    let inputs = at_sixteenths(&mut Rng::new(SEED));
+    println!(
+        "degree {MAX_DEGREE}, {SIXTEENTH_CURVES} curves at each of the {SIXTEENTH_PLACES} places j/16, \
+         {ROUNDS} rounds of {TIMES} times all of them"
+    );
+    side_by_side(&SIXTEENTHS, &inputs, TIMES)
 }
 
 fn measurements() -> Result<(), String> {
@@ -72,6 +88,16 @@ fn input(rng: &mut Rng) -> Input {
         num: rng.between(0, den) as u32,
         den: den as u32,
     }
+}
+
+/// Accepted curves, each at the next place, so that all places come equally often.
+fn at_sixteenths(rng: &mut Rng) -> Vec<AtSixteenth> {
+    let places = (0..SIXTEENTH_PLACES as u32).cycle();
+    let drawn = places.map(|j| AtSixteenth {
+        sides: input(rng).sides,
+        j,
+    });
+    drawn.take(SIXTEENTH_PLACES * SIXTEENTH_CURVES).collect()
 }
 
 /// An accepted load with a spread, in ohms with random digits.
@@ -159,6 +185,7 @@ mod tests {
             den: 2,
         });
         assert!(agree(&EVALUATE, &inputs) && agree(&SUBDIVIDE, &inputs));
+        assert!(agree(&SIXTEENTHS, &at_sixteenths(&mut rng)));
         let spread: Vec<_> = (0..MEASURED).map(|_| with_spread(&mut rng)).collect();
         let plain: Vec<_> = spread.iter().map(|[r, x, _]| [*r, *x]).collect();
         assert!(agree(&enclose::<WITH_SPREAD>(), &spread));

@@ -14,6 +14,9 @@ pub const MAX_SIDE: i32 = 16_777_216;
 /// The largest den of a parameter.
 pub const MAX_DEN: u32 = 65_536;
 
+/// The places j/16 of a reading by one sum go up to this j.
+pub const SIXTEENTHS: u32 = 16;
+
 /// The numbers of a rectangle.
 pub const RECT_LENGTH: usize = 4;
 
@@ -183,6 +186,22 @@ impl Curve {
             &mut ohms,
             &mut exact,
         );
+        Refusal::check(answer)?;
+        Ok(Evaluation {
+            load: load.into(),
+            ohms,
+            exact: exact != ROUNDED,
+        })
+    }
+
+    /// The load at j/16, for j from 0 to 16, by the whole Bernstein sum rounded outward once: it lies inside
+    /// the one that `evaluate` gives there, and no side lies a whole step from the exact one.
+    #[inline]
+    pub fn evaluate_sixteenths(&self, j: u32) -> Result<Evaluation, Refusal> {
+        let (mut load, mut ohms, mut exact) = ([0; RECT_LENGTH], [0.0; RECT_LENGTH], ROUNDED);
+        let sides = self.sides();
+        let answer =
+            raw::evaluate_sixteenths(self.degree, &sides, j, &mut load, &mut ohms, &mut exact);
         Refusal::check(answer)?;
         Ok(Evaluation {
             load: load.into(),

@@ -128,6 +128,29 @@ fn refuses_a_measured_load_along_the_limits() {
     assert_eq!(enclosed(&[LIMIT - STEP, -LIMIT, STEP]), refused(14, 1));
 }
 
+/// Document 02, point 4.
+#[test]
+fn rounds_a_sum_once() {
+    let curve = values(&[1, 0, 3]);
+    let half = curve.evaluate_sixteenths(8).unwrap();
+    assert_eq!((half.load, half.exact), ([1, 1, 0, 0].into(), true));
+    assert_eq!(half.ohms, [0.0009765625, 0.0009765625, 0.0, 0.0]);
+    let staged = curve.evaluate(8, SIXTEENTHS).unwrap();
+    assert_eq!((staged.load, staged.exact), ([0, 2, 0, 0].into(), false));
+    // Just below 1, 0 to 1.
+    let before = curve.evaluate_sixteenths(7).unwrap();
+    assert_eq!((before.load, before.exact), ([0, 1, 0, 0].into(), false));
+    for (j, end) in [(0, 0), (SIXTEENTHS, 2)] {
+        let read = curve.evaluate_sixteenths(j).unwrap();
+        assert_eq!((read.load, read.exact), (curve.points[end], true));
+    }
+    assert_eq!(curve.evaluate_sixteenths(17), refused(15, 0));
+    assert_eq!(curve.evaluate_sixteenths(u32::MAX), refused(15, 0));
+    assert_eq!(Curve::default().evaluate_sixteenths(17), refused(1, 0));
+    let too_far = values(&[0, MAX_SIDE + 1]);
+    assert_eq!(too_far.evaluate_sixteenths(17), refused(2, 1));
+}
+
 #[test]
 fn searches_a_box() {
     let curve = values(&[0, 4]);

@@ -20,6 +20,17 @@ mod foreign {
             ohms_length: usize,
             exact: *mut u32,
         ) -> u64;
+        pub fn jusqani_evaluate_sixteenths(
+            degree: u32,
+            sides: *const i32,
+            sides_length: usize,
+            j: u32,
+            load: *mut i32,
+            load_length: usize,
+            ohms: *mut f32,
+            ohms_length: usize,
+            exact: *mut u32,
+        ) -> u64;
         pub fn jusqani_subdivide(
             degree: u32,
             sides: *const i32,
@@ -108,6 +119,32 @@ pub fn evaluate(
             sides.len(),
             num,
             den,
+            load.as_mut_ptr(),
+            load.len(),
+            ohms.as_mut_ptr(),
+            ohms.len(),
+            exact,
+        )
+    }
+}
+
+/// Evaluates a curve at j/16 by its whole Bernstein sum, rounded once: the same results.
+#[inline]
+pub fn evaluate_sixteenths(
+    degree: u32,
+    sides: &[i32],
+    j: u32,
+    load: &mut [i32],
+    ohms: &mut [f32],
+    exact: &mut u32,
+) -> u64 {
+    // Sound: three slices with their lengths, two of them and the flag lent alone (see the module).
+    unsafe {
+        foreign::jusqani_evaluate_sixteenths(
+            degree,
+            sides.as_ptr(),
+            sides.len(),
+            j,
             load.as_mut_ptr(),
             load.len(),
             ohms.as_mut_ptr(),

@@ -31,6 +31,7 @@ impl Refusal {
                  or a spread is not 0 to 16,384 ohms"
             }
             14 => "with the spread a side is out of range (16,384 ohms either way)",
+            15 => "j is above 16",
             _ => "not a refusal of this library",
         }
     }
@@ -94,6 +95,8 @@ mod tests {
             shown(12, 16),
             "refused 12: a buffer for the result is too short, the length 16 is needed"
         );
+        assert_eq!(shown(15, 0), "refused 15: j is above 16");
+        assert_eq!(shown(16, 0), "refused 16: not a refusal of this library");
     }
 
     #[test]

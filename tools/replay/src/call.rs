@@ -12,6 +12,9 @@ pub enum Call {
         num: u32,
         den: u32,
     },
+    EvaluateSixteenths {
+        j: u32,
+    },
     Subdivide {
         num: u32,
         den: u32,
@@ -43,6 +46,7 @@ pub enum Kind {
     Elevate,
     Bounds,
     Search,
+    EvaluateSixteenths,
 }
 
 impl Kind {
@@ -56,9 +60,10 @@ impl Kind {
             4 => Ok(Kind::Elevate),
             5 => Ok(Kind::Bounds),
             6 => Ok(Kind::Search),
+            7 => Ok(Kind::EvaluateSixteenths),
             other => Err(Fault {
                 at: 0,
-                what: format!("{other} is no call: 1 to 6 are the calls, and 0 ends a case"),
+                what: format!("{other} is no call: 1 to 7 are the calls, and 0 ends a case"),
             }),
         }
     }
@@ -67,6 +72,7 @@ impl Kind {
     pub fn columns(self) -> usize {
         match self {
             Kind::Close | Kind::Elevate | Kind::Bounds => 1,
+            Kind::EvaluateSixteenths => 2,
             Kind::Evaluate | Kind::Subdivide(_) => 3,
             Kind::Search => 7,
         }
@@ -87,6 +93,10 @@ impl Kind {
             Kind::Elevate => Request::Call(Call::Elevate),
             Kind::Bounds => Request::Call(Call::Bounds),
             Kind::Search => Request::Call(search(line)?),
+            Kind::EvaluateSixteenths => {
+                let j = Field::word("j").read(line, 1)?;
+                Request::Call(Call::EvaluateSixteenths { j })
+            }
         };
         line_end(line, self.columns())?;
         Ok(request)
@@ -139,13 +149,14 @@ mod tests {
             depth: 5,
             budget: 6,
         };
-        let calls: [(&[i64], Call); 6] = [
+        let calls: [(&[i64], Call); 7] = [
             (&[1, 1, word], Call::Evaluate { num, den }),
             (&[2, 1, word], subdivide(Kept::Left)),
             (&[3, 1, word], subdivide(Kept::Right)),
             (&[4], Call::Elevate),
             (&[5], Call::Bounds),
             (&[6, -1, 2, -3, 4, 5, 6], search),
+            (&[7, word], Call::EvaluateSixteenths { j: u32::MAX }),
         ];
         for (numbers, call) in calls {
             assert_eq!(read(numbers), Ok(Request::Call(call)));
@@ -155,10 +166,12 @@ mod tests {
 
     #[test]
     fn finds_the_first_wrong_column() {
-        let words = "7 is no call: 1 to 6 are the calls, and 0 ends a case";
-        assert_eq!(wrong(&[7]), (0, words.to_string()));
+        let words = "8 is no call: 1 to 7 are the calls, and 0 ends a case";
+        assert_eq!(wrong(&[8]), (0, words.to_string()));
         let words = "num is -1, which is not 0 to 4294967295";
         assert_eq!(wrong(&[1, -1, -1]), (10, words.to_string()));
+        let words = "j is -1, which is not 0 to 4294967295";
+        assert_eq!(wrong(&[7, -1]), (10, words.to_string()));
         let words = "the box's low reactance is 2147483648, which is not -2147483648 to 2147483647";
         assert_eq!(
             wrong(&[6, 0, 0, 2_147_483_648, 0, 0, 1]),
@@ -166,6 +179,8 @@ mod tests {
         );
         assert_eq!(wrong(&[6, 0, 0, 0, 0, 0]).0, 60);
         assert_eq!(wrong(&[1, 1]).0, 20);
+        assert_eq!(wrong(&[7]).0, 10);
+        assert_eq!(wrong(&[7, 8, 16]).0, 20);
         assert_eq!(wrong(&[4, 4]).0, 10);
     }
 }

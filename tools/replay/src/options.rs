@@ -18,11 +18,14 @@ line with the column 0:
   5                          bounds                 0, four sides
   6, four box sides, depth,  walk over a box        0, verdict (1 Inside, 2 Outside, 3 Spent,
   budget                                            4 Undecided), depth, index, count
+  7, j                       reading at j/16,       as for 1
+                             summed
 
-Exact is 1 where the call rounded nothing, and 0 where it rounded some side. A box's low sides lie
-inside it and its high sides outside: a high side is the first value not allowed. A card answers 0 and
-its degree, and a refusal its number and place. A card or a call line that is malformed or cut short
-ends the run with 99 and the offset of its first byte.
+Reading 1 rounds every stage; reading 7, for j from 0 to 16, rounds the whole sum once. Exact is 1 where
+the call rounded nothing, and 0 where it rounded some side. A box's low sides lie inside it and its high
+sides outside: a high side is the first value not allowed. A card answers 0 and its degree, and a refusal
+its number and place. A card or a call line that is malformed or cut short ends the run with 99 and the
+offset of its first byte.
 
   --places  put two spaces and the place on the starting curve behind each accepted reading, as
             upper/lower in lowest terms, where both have at most 20 digits

@@ -1,6 +1,6 @@
 //! A case as it runs: the curve that is left, its ledger, and the answer to each call.
 
-use jusqani::{Curve, Elevation, Rect, Refusal, Subdivision, Verdict};
+use jusqani::{Curve, Elevation, Evaluation, Rect, Refusal, Subdivision, Verdict, SIXTEENTHS};
 
 use crate::call::Call;
 use crate::columns::{capped, columns_of};
@@ -60,6 +60,7 @@ impl Session {
     pub fn answer(&mut self, call: Call) -> Answer {
         let answer = match call {
             Call::Evaluate { num, den } => self.evaluate(num, den),
+            Call::EvaluateSixteenths { j } => self.evaluate_sixteenths(j),
             Call::Subdivide { num, den, kept } => self.subdivide(num, den, kept),
             Call::Elevate => self.elevate(),
             Call::Bounds => self.bounds(),
@@ -74,12 +75,22 @@ impl Session {
 
     fn evaluate(&self, num: u32, den: u32) -> Result<Answer, Refusal> {
         let read = self.curve.evaluate(num, den)?;
+        Ok(self.reading(read, num, den))
+    }
+
+    fn evaluate_sixteenths(&self, j: u32) -> Result<Answer, Refusal> {
+        let read = self.curve.evaluate_sixteenths(j)?;
+        Ok(self.reading(read, j, SIXTEENTHS))
+    }
+
+    /// The answer of either reading at num/den, an accepted parameter.
+    fn reading(&self, read: Evaluation, num: u32, den: u32) -> Answer {
         let mut numbers = vec![0];
         numbers.extend(sides(&[read.load]));
         numbers.push(capped(self.ledger.sum(self.curve.degree)));
         numbers.push(read.exact.into());
         let place = self.ledger.place(num, den);
-        Ok(Answer { numbers, place })
+        Answer { numbers, place }
     }
 
     fn subdivide(&mut self, num: u32, den: u32, kept: Kept) -> Result<Answer, Refusal> {
@@ -201,6 +212,30 @@ mod tests {
         assert_eq!(numbers(&mut session, Call::Elevate), raised);
     }
 
+    /// Values 1, 0, 3 at 8/16: [1, 1] by one sum and [0, 2] by stages, both within the ledger's two steps.
+    #[test]
+    fn reads_a_sixteenth_by_one_sum() {
+        let card = b"         2
+         1         1         0         0
+         0         0         0         0
+         3         3         0         0
+";
+        let (mut session, _) = Session::open(card, true);
+        let sixteenths = |j| Call::EvaluateSixteenths { j };
+        assert_eq!(
+            numbers(&mut session, evaluate(8, 16)),
+            [0, 0, 2, 0, 0, 2, 0]
+        );
+        assert_eq!(numbers(&mut session, sixteenths(8)), [0, 1, 1, 0, 0, 2, 1]);
+        assert_eq!(numbers(&mut session, sixteenths(17)), [15, 0]);
+        session.answer(subdivide(1, 2, Kept::Right));
+        // From 1/2 on, 12/16 of the rest.
+        assert_eq!(
+            session.answer(sixteenths(12)).line(),
+            "         0         2         3         0         0         4         0  7/8\n"
+        );
+    }
+
     #[test]
     fn goes_on_after_a_refused_call() {
         let (mut session, _) = Session::open(CARD, true);
@@ -219,7 +254,8 @@ mod tests {
             .replace("         0         2\n", "         9         2\n");
         let (mut session, answer) = Session::open(card.as_bytes(), true);
         assert_eq!(answer.line(), "         3         1\n");
-        for call in [Call::Bounds, Call::Elevate, evaluate(1, 0)] {
+        let sixteenths = Call::EvaluateSixteenths { j: 17 };
+        for call in [Call::Bounds, Call::Elevate, evaluate(1, 0), sixteenths] {
             assert_eq!(numbers(&mut session, call), [1, 0]);
         }
     }

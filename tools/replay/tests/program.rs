@@ -60,7 +60,7 @@ fn expect(output: &Output, status: i32, stdout: &str, stderr: &str) {
 }
 
 const AT_THE_LAST_CARD: &str =
-    "replay: standard input, line 37, column 1: the input ends, and ten bytes of a number are due here\n";
+    "replay: standard input, line 41, column 1: the input ends, and ten bytes of a number are due here\n";
 
 #[test]
 fn answers_the_sample_in_pieces_of_any_size() {
@@ -105,7 +105,7 @@ const FAULTS: [(&str, usize, &str); 6] = [
     (
         "        12\n",
         1,
-        "12 is no call: 1 to 6 are the calls, and 0 ends a case",
+        "12 is no call: 1 to 7 are the calls, and 0 ends a case",
     ),
     (
         "         5",
@@ -150,7 +150,8 @@ fn reads_a_file() {
 fn shows_places_where_it_is_asked_to() {
     // From 1/3 on, two thirds wide; a quarter of that is the place 1/2.
     let calls = "         3         1         3\n         1         1         4\n         1         5         4\n";
-    let text = format!("{CARD}{calls}");
+    let sixteenths = "         7         4\n         7        17\n";
+    let text = format!("{CARD}{calls}{sixteenths}");
     let shown = |arguments: &[&str]| {
         let output = run(arguments, &text);
         assert_eq!(output.status.code(), Some(0));
@@ -159,8 +160,11 @@ fn shows_places_where_it_is_asked_to() {
     };
     let mut answers = shown(&[]);
     let read = "         0         0         3        -2         0         2         0";
-    assert_eq!(answers[2..], [read, "         5         0"]);
-    answers[2].push_str("  1/2");
+    let refused = ["         5         0", "        15         0"];
+    assert_eq!(answers[2..], [read, refused[0], read, refused[1]]);
+    for reading in [2, 4] {
+        answers[reading].push_str("  1/2");
+    }
     assert_eq!(shown(&["--places"]), answers);
 }
 

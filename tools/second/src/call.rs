@@ -10,10 +10,12 @@ pub enum Kept {
     Right,
 }
 
-/// A call; the paper's names are reading, cut, raising, span and walk.
+/// A call; the paper's names are reading, second reading, cut, raising, span and walk.
 #[derive(Clone, Copy, PartialEq, Debug)]
 pub enum Call {
     Evaluate(Parameter),
+    /// At j/16, by one sum.
+    EvaluateSixteenths(u32),
     Subdivide(Parameter, Kept),
     Elevate,
     Bounds,

@@ -1,7 +1,7 @@
-//! The five calls on a curve beside the model.
+//! The calls on a curve beside the model; the second reading is in summed.rs.
 
 use crate::coverage::{Line, NoBox, Ohm, Row};
-use crate::door::{curve_length, given_limits, FOUR, MODEL};
+use crate::door::{curve_length, given_limits, Door, FOUR, MODEL};
 use crate::given::Given;
 use crate::lent::{Compared, Lent, LentNumber, BEHIND};
 use crate::model::{
@@ -73,29 +73,41 @@ impl Trial<'_> {
         given: &Given,
         t: Parameter,
     ) -> Result<Outcome<Flagged<[i32; 4]>>, String> {
+        let (degree, sides, Parameter { num, den }) = (given.degree, given.sides(), t);
+        let evaluate = |door: &Door, load: &mut [i32], ohms: &mut [f32], exact: &mut u32| {
+            (door.evaluate)(degree, sides, num, den, load, ohms, exact)
+        };
+        let outcome = self.reading(&EVALUATE, evaluate, || format!("{given}\nat {num}/{den}"))?;
+        if let Ok(load) = &outcome {
+            self.count_given(given);
+            self.count_parameter(Line::EvaluateAt, t);
+            self.count_ohms(Line::OhmKinds, &load.result);
+            self.count_flag(EVALUATE_FLAGS, given, t.is_end(), load.exact);
+        }
+        Ok(outcome)
+    }
+
+    /// Compares either reading, which is lent room for the load and for the ohms, and its flag.
+    pub fn reading(
+        &mut self,
+        counted: &Counted,
+        read: impl Fn(&Door, &mut [i32], &mut [f32], &mut u32) -> u64,
+        input: impl FnOnce() -> String,
+    ) -> Result<Outcome<Flagged<[i32; FOUR]>>, String> {
         let mut load: Lent<i32, RECT_ROOM> = self.lend("load", FOUR);
         let mut ohms: Lent<f32, RECT_ROOM> = self.lend("ohms", FOUR);
         let mut exact = LentNumber::new("exact", self.rng);
-        let (degree, sides, Parameter { num, den }) = (given.degree, given.sides(), t);
-        let (to, display, flag) = (load.expected(), ohms.expected(), exact.expected());
-        let expected = (MODEL.evaluate)(degree, sides, num, den, to, display, flag);
-        let (to, display, flag) = (load.came(), ohms.came(), exact.came());
-        let came = (self.door.evaluate)(degree, sides, num, den, to, display, flag);
-        let input = || format!("{given}\nat {num}/{den}");
+        let expected = read(&MODEL, load.expected(), ohms.expected(), exact.expected());
+        let came = read(self.door, load.came(), ohms.came(), exact.came());
         let buffers: [&dyn Compared; 3] = [&load, &ohms, &exact];
-        let outcome = self.finish(&EVALUATE, [expected, came], FOUR, &buffers, input)?;
-        Ok(outcome.map(|()| {
-            let result = std::array::from_fn(|side| load.left()[side]);
-            self.count_given(given);
-            self.count_parameter(Line::EvaluateAt, t);
-            self.count_ohms(&result);
-            let exact = exact.left() == EXACT;
-            self.count_flag(EVALUATE_FLAGS, given, t.is_end(), exact);
-            Flagged { result, exact }
+        let outcome = self.finish(counted, [expected, came], FOUR, &buffers, input)?;
+        Ok(outcome.map(|()| Flagged {
+            result: std::array::from_fn(|side| load.left()[side]),
+            exact: exact.left() == EXACT,
         }))
     }
 
-    fn count_ohms(&mut self, sides: &[i32; 4]) {
+    pub fn count_ohms(&mut self, line: Line, sides: &[i32; FOUR]) {
         for side in sides {
             let kind = match i64::from(*side) {
                 0 => Ohm::Zero,
@@ -104,7 +116,7 @@ impl Trial<'_> {
                 side if side < 0 => Ohm::Below,
                 _ => Ohm::Above,
             };
-            self.tally.cover(Line::OhmKinds, kind as usize);
+            self.tally.cover(line, kind as usize);
         }
     }
 
@@ -254,7 +266,7 @@ impl Trial<'_> {
     }
 
     /// Counts the curve of an accepted call by the sides lent for it.
-    fn count_given(&mut self, given: &Given) {
+    pub fn count_given(&mut self, given: &Given) {
         let lent = match given.length.cmp(&(FOUR * (given.degree as usize + 1))) {
             Ordering::Less => 0,
             Ordering::Equal => 1,

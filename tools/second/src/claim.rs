@@ -153,14 +153,17 @@ mod tests {
     use crate::ledger::Ledger;
     use crate::model::Parameter;
 
-    /// Values 1, 0, 3 at 1/2: the exact load is 1, and 2 steps are allowed.
+    /// Values 1, 0, 3 at 1/2: the exact load is 1, and 2 steps are allowed, of either reading.
     #[test]
     fn claims_neither_less_nor_more() {
+        claims_neither(&Call::Evaluate(Parameter { num: 1, den: 2 }));
+        claims_neither(&Call::EvaluateSixteenths(8));
+    }
+
+    fn claims_neither(reading: &Call) {
         let curve = Curve::new(&[[1, 1, 0, 0], [0, 0, 0, 0], [3, 3, 0, 0]]);
         let inside = Ordinary::some_inside(&curve, &mut Rng::new(1));
-        let entry = Ledger::open(&curve)
-            .feed(&Call::Evaluate(Parameter { num: 1, den: 2 }))
-            .unwrap();
+        let entry = Ledger::open(&curve).feed(reading).unwrap();
         for low in -3..=3 {
             for high in -1..=5 {
                 let claim = |steps, read| claim(&curve, &inside, &entry, steps, &read).is_ok();

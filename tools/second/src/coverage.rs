@@ -9,6 +9,9 @@ use Values::*;
 #[derive(Clone, Copy, PartialEq, Debug)]
 pub enum Row {
     Evaluate,
+    Sixteenths,
+    SixteenthsSides,
+    SixteenthsInside,
     Subdivide,
     Elevate,
     Bounds,
@@ -29,6 +32,7 @@ pub enum Row {
     Panel,
     PanelAgain,
     Claim,
+    ClaimSummed,
     ExactLoads,
     ExactPieces,
     ExactRaised,
@@ -46,8 +50,11 @@ pub enum Row {
 }
 
 /// Each row's name, and how many comparisons must agree.
-pub const ROWS: [(Row, &str, u64); 35] = [
+pub const ROWS: [(Row, &str, u64); 39] = [
     (Evaluate, "evaluate", 2_000_000),
+    (Sixteenths, "evaluate_sixteenths", 1_000_000),
+    (SixteenthsSides, "sixteenths, exact fractions", 100_000),
+    (SixteenthsInside, "sixteenths, inside evaluate", 300_000),
     (Subdivide, "subdivide", 1_000_000),
     (Elevate, "elevate", 500_000),
     (Bounds, "bounds", 200_000),
@@ -68,6 +75,7 @@ pub const ROWS: [(Row, &str, u64); 35] = [
     (Panel, "panel", 1_000_000),
     (PanelAgain, "panel by read_card, evaluate", 1_000_000),
     (Claim, "demand 3, readings", 200_000),
+    (ClaimSummed, "demand 3, second readings", 50_000),
     (ExactLoads, "exact flag, sides of loads", 200_000),
     (ExactPieces, "exact flag, sides of pieces", 30_000),
     (ExactRaised, "exact flag, sides of raised", 20_000),
@@ -77,7 +85,7 @@ pub const ROWS: [(Row, &str, u64); 35] = [
     (CardLong, "card, long input", 5),
     (CardPlaces, "card, every place of a refusal", 76),
     (CardSlow, "card, slow pipe", 16),
-    (ReplayExamples, "replay, examples", 18),
+    (ReplayExamples, "replay, examples", 20),
     (ReplayTexts, "replay, texts", 100),
     (ReplayDamaged, "replay, damaged texts", 500),
     (ReplayLong, "replay, long texts", 1),
@@ -104,6 +112,19 @@ pub enum Line {
     EvaluateRounded,
     EvaluateTrivial,
     EvaluateExact,
+    SixteenthsNumbers,
+    SixteenthsAt,
+    SixteenthsBeyond,
+    SixteenthsBoth,
+    SixteenthsLoad,
+    SixteenthsOhms,
+    SixteenthsOhmKinds,
+    SixteenthsRounded,
+    SixteenthsTrivial,
+    SixteenthsExact,
+    SixteenthsSidesRounded,
+    SixteenthsStages,
+    SixteenthsNarrower,
     SubdivideNumbers,
     SubdivideAt,
     SubdivideLeft,
@@ -166,6 +187,9 @@ pub enum Line {
     Changes,
     Refusals,
     ExactReadings,
+    SummedChanges,
+    SummedRefusals,
+    SummedExact,
     LoadFlags,
     PieceFlags,
     RaisedFlags,
@@ -176,6 +200,7 @@ pub enum Line {
     Endings,
     Placed,
     ReplayFlags,
+    ReplaySixteenths,
 }
 
 /// Where an accepted parameter lies, and which limit of den it meets.
@@ -351,6 +376,10 @@ const LENGTHS: Values = Words(&["0", "1 to 10", "11 to 380", "above 380"]);
 const REFUSED: Values = Words(&[
     "0", "9", "10", "257", "65538", "2^31", "2^31 + 3", "2^32 - 1",
 ]);
+/// The j above 16 that are drawn, in draw's order.
+const BEYOND: Values = Words(&[
+    "17", "18", "32", "256", "272", "65544", "2^31 + 3", "2^32 - 1",
+]);
 /// The sides in their order, each a step within its limit, at it and a step beyond.
 const WIDENED: Values = Words(&[
     "R low within",
@@ -375,18 +404,19 @@ const REPLAY_FLAGS: Values = Words(&[
     "cut or raising rounded",
     "cut or raising exact",
 ]);
+const REPLAY_J: Values = Words(&["0", "1 to 15", "16", "above 16"]);
 
 /// The words for the lines of flags by degree.
 const ROUNDED: &str = "rounded by degree";
 const TRIVIAL: &str = "exact by degree, at 0 or 1 or of one rectangle";
 const EXACT: &str = "exact by degree, others";
 /// The refusals that a call has before it tries its buffers.
-const OTHERS: Values = These(&[1, 2, 3, 4, 5, 6, 7, 8, 9, 10, 11, 13, 14]);
+const OTHERS: Values = These(&[1, 2, 3, 4, 5, 6, 7, 8, 9, 10, 11, 13, 14, 15]);
 
 /// The lines by what they are about: what is counted, the values and how often each must come.
 type Group = (&'static str, &'static [(Line, &'static str, Values, u64)]);
 
-pub const GROUPS: [Group; 13] = [
+pub const GROUPS: [Group; 14] = [
     (
         "curves given",
         &[
@@ -422,6 +452,73 @@ pub const GROUPS: [Group; 13] = [
             (EvaluateRounded, ROUNDED, Span(1, 8), 50_000),
             (EvaluateTrivial, TRIVIAL, Span(1, 8), 20_000),
             (EvaluateExact, EXACT, Span(1, 8), 10_000),
+        ],
+    ),
+    (
+        "evaluate_sixteenths",
+        &[
+            (
+                SixteenthsNumbers,
+                "answers",
+                These(&[0, 1, 2, 3, 12, 15]),
+                1_000,
+            ),
+            // The seventeen places of degree 1, then of degree 2, and so on.
+            (
+                SixteenthsAt,
+                "accepted by degree and j",
+                Span(0, 135),
+                5_000,
+            ),
+            (SixteenthsBeyond, "j above 16 refused", BEYOND, 5_000),
+            (
+                SixteenthsBoth,
+                "refusals of the curve, j above 16 too",
+                These(&[1, 2, 3]),
+                1_000,
+            ),
+            (SixteenthsLoad, "load lent", Span(0, 8), 1_000),
+            (SixteenthsOhms, "ohms lent", Span(0, 8), 1_000),
+            (SixteenthsOhmKinds, "ohms stored", OHMS, 10_000),
+            // The fifteen places between 0 and 16 of degree 1, then of degree 2, and so on.
+            (
+                SixteenthsRounded,
+                "rounded by degree and j",
+                Span(0, 119),
+                2_000,
+            ),
+            (
+                SixteenthsTrivial,
+                "exact by degree, j 0 or 16 or of one rectangle",
+                Span(1, 8),
+                10_000,
+            ),
+            (
+                SixteenthsExact,
+                "exact by degree and j, others",
+                Span(0, 119),
+                500,
+            ),
+            // Summed up as for the exact flag, below.
+            (
+                SixteenthsSidesRounded,
+                "rounded by rounded sides",
+                Span(1, 15),
+                500,
+            ),
+            // At degree 1 both readings are the same.
+            (
+                SixteenthsStages,
+                "exact where evaluate rounds, by degree",
+                Span(2, 8),
+                300,
+            ),
+            (
+                SixteenthsNarrower,
+                "sides narrower than evaluate's",
+                Span(0, 4),
+                20_000,
+            ),
         ],
     ),
     (
@@ -597,6 +694,19 @@ pub const GROUPS: [Group; 13] = [
                 Span(0, 3),
                 500,
             ),
+            (SummedChanges, "by one sum, changes before", Span(0, 5), 200),
+            (
+                SummedRefusals,
+                "by one sum, refused changes before",
+                Span(0, 3),
+                100,
+            ),
+            (
+                SummedExact,
+                "by one sum, nothing rounded, changes before",
+                Span(0, 3),
+                50,
+            ),
         ],
     ),
     (
@@ -629,6 +739,7 @@ pub const GROUPS: [Group; 13] = [
             (Endings, "replay, damaged texts end", ENDINGS, 10),
             (Placed, "replay, places", PLACED, 100),
             (ReplayFlags, "replay, exact flags", REPLAY_FLAGS, 100),
+            (ReplaySixteenths, "replay, j", REPLAY_J, 20),
         ],
     ),
 ];
@@ -652,7 +763,7 @@ impl Values {
 #[cfg(test)]
 mod tests {
     use super::*;
-    use crate::draw::REFUSED_DEGREES;
+    use crate::draw::{REFUSED_DEGREES, REFUSED_SIXTEENTHS};
 
     #[test]
     fn has_every_row_and_line_once() {
@@ -661,7 +772,8 @@ mod tests {
         let lines = GROUPS.iter().flat_map(|(_, lines)| lines.iter());
         assert!(lines
             .map(|(line, ..)| *line as usize)
-            .eq(0..=ReplayFlags as usize));
+            .eq(0..=ReplaySixteenths as usize));
         assert_eq!(REFUSED.named().len(), REFUSED_DEGREES.len());
+        assert_eq!(BEYOND.named().len(), REFUSED_SIXTEENTHS.len());
     }
 }

@@ -3,11 +3,13 @@
 
 use crate::bridge::Measurement;
 use crate::card::{card_length, card_of, curve_of};
-use crate::model::{ohms, refuse_if, Curve, Parameter, Rectangle, Refusal, MAX_DEGREE};
+use crate::model::{ohms, refuse_if, Curve, Flagged, Parameter, Rectangle, Refusal, MAX_DEGREE};
 use crate::search::Search;
 
 /// A call on a curve at num/den, with two buffers for its result and the number for its exact flag.
 pub type AtParameter<T> = fn(u32, &[i32], u32, u32, &mut [i32], &mut [T], &mut u32) -> u64;
+/// A call on a curve at j/16, with the same as an evaluation.
+pub type AtSixteenth = fn(u32, &[i32], u32, &mut [i32], &mut [f32], &mut u32) -> u64;
 /// A call on a curve alone, with one buffer for its result.
 pub type OnCurve<T> = fn(u32, &[i32], &mut [T]) -> u64;
 /// Such a call with the number for its exact flag.
@@ -18,10 +20,11 @@ pub type OnBox = fn(u32, &[i32], &[i32], u32, u32, &mut [u32]) -> u64;
 /// What the bridge measured, the buffer for its rectangle, and the number for what was found.
 pub type OnMeasured = fn(&[f32], &mut [i32], &mut u32) -> u64;
 
-/// The nine calls, of the proved library or of the model.
+/// The ten calls, of the proved library or of the model.
 #[derive(Clone, Copy)]
 pub struct Door {
     pub evaluate: AtParameter<f32>,
+    pub evaluate_sixteenths: AtSixteenth,
     pub subdivide: AtParameter<i32>,
     pub elevate: Elevate,
     pub bounds: OnCurve<i32>,
@@ -35,6 +38,7 @@ pub struct Door {
 /// The calls as they must be.
 pub const MODEL: Door = Door {
     evaluate,
+    evaluate_sixteenths,
     subdivide,
     elevate,
     bounds,
@@ -121,15 +125,34 @@ fn evaluate(
     display: &mut [f32],
     exact: &mut u32,
 ) -> u64 {
-    let mut result = || {
-        let evaluated = given_curve(degree, sides).evaluate(Parameter { num, den })?;
-        need(FOUR, &[load.len(), display.len()])?;
-        store(&evaluated.result, load);
-        display[..FOUR].copy_from_slice(&ohms(&evaluated.result));
-        *exact = evaluated.exact.into();
-        Ok(())
-    };
-    answer(result())
+    let read = given_curve(degree, sides).evaluate(Parameter { num, den });
+    answer(read.and_then(|read| store_reading(&read, load, display, exact)))
+}
+
+fn evaluate_sixteenths(
+    degree: u32,
+    sides: &[i32],
+    j: u32,
+    load: &mut [i32],
+    display: &mut [f32],
+    exact: &mut u32,
+) -> u64 {
+    let read = given_curve(degree, sides).evaluate_sixteenths(j);
+    answer(read.and_then(|read| store_reading(&read, load, display, exact)))
+}
+
+/// Stores what either reading gave, where there is room.
+fn store_reading(
+    read: &Flagged<Rectangle>,
+    load: &mut [i32],
+    display: &mut [f32],
+    exact: &mut u32,
+) -> Result<(), Refusal> {
+    need(FOUR, &[load.len(), display.len()])?;
+    store(&read.result, load);
+    display[..FOUR].copy_from_slice(&ohms(&read.result));
+    *exact = read.exact.into();
+    Ok(())
 }
 
 fn subdivide(
@@ -276,6 +299,24 @@ mod tests {
         assert_eq!(panel(CARD, 1, 2, &mut out), 0);
         let sides = [0, 0, 0, 0, 2, 0, 0, 0, 254, 255, 255, 255, 0, 0, 0, 0];
         assert_eq!((&out[..16], &out[16..]), (&sides[..], &[7; 4][..]));
+    }
+
+    #[test]
+    fn reads_a_sixteenth_as_it_evaluates() {
+        let mut lent = ([7; 5], [7.0; 5], 7);
+        let mut call = |degree, j, room: usize| {
+            let (load, display, exact) = &mut lent;
+            let (load, display) = (&mut load[..room], &mut display[..4]);
+            let answer = evaluate_sixteenths(degree, &SIDES, j, load, display, exact);
+            (answer, std::mem::replace(&mut lent, ([7; 5], [7.0; 5], 7)))
+        };
+        let kept = ([7; 5], [7.0; 5], 7);
+        let steps = [0.0, 2.0, -2.0, 0.0].map(|side| side / 1_024.0);
+        let ohms = [steps[0], steps[1], steps[2], steps[3], 7.0];
+        assert_eq!(call(1, 8, 5), (0, ([0, 2, -2, 0, 7], ohms, 0)));
+        assert_eq!(call(1, 8, 3), (12 | (4 << 32), kept));
+        assert_eq!(call(1, 17, 3), (15, kept));
+        assert_eq!(call(9, 17, 3), (1, kept));
     }
 
     #[test]

@@ -1,4 +1,4 @@
-//! What is drawn from a fixed seed: curves, parameters, boxes and lists of calls.
+//! What is drawn from a fixed seed: curves, parameters, places, boxes and lists of calls.
 
 use crate::call::{Call, Kept};
 use crate::given::{Given, MAX_SIDES};
@@ -6,6 +6,7 @@ use crate::grid::Grid;
 use crate::model::{Curve, Parameter, Rectangle, MAX_DEGREE, MAX_DEN, MAX_SIDE};
 use crate::rng::Rng;
 use crate::search::{Search, MAX_BUDGET, MAX_DEPTH};
+use crate::sixteenths::SIXTEENTHS;
 
 pub fn degree(rng: &mut Rng) -> usize {
     1 + rng.up_to(MAX_DEGREE - 1)
@@ -99,7 +100,12 @@ pub const REFUSED_DEGREES: [u32; 8] = [0, 9, 10, 257, 65_538, 1 << 31, (1 << 31)
 /// A curve as a call is given it: one in twelve is spoilt, some have another degree, and the slice of
 /// sides is now and then shorter or longer than the curve.
 pub fn given(rng: &mut Rng, degree: usize, grid: Option<Grid>) -> Given {
-    let mut curve = curve_on(rng, degree, grid);
+    let curve = curve_on(rng, degree, grid);
+    given_of(rng, curve)
+}
+
+/// The same from an accepted curve.
+pub fn given_of(rng: &mut Rng, mut curve: Curve) -> Given {
     if rng.one_in(12) {
         spoil(rng, &mut curve, &TOO_FAR_FOR_A_CALL);
     }
@@ -169,25 +175,44 @@ fn refused_parameter(rng: &mut Rng) -> Parameter {
     Parameter { num, den }
 }
 
+/// Numbers above 16, some of them with a number from 0 to 16 in their low bits.
+pub const REFUSED_SIXTEENTHS: [u32; 8] = [17, 18, 32, 256, 272, 65_544, (1 << 31) + 3, u32::MAX];
+
+/// A place j/16, one in twelve of them refused.
+pub fn sixteenth(rng: &mut Rng) -> u32 {
+    if rng.one_in(12) {
+        return rng.pick(&REFUSED_SIXTEENTHS);
+    }
+    rng.up_to(SIXTEENTHS as usize) as u32
+}
+
 /// The most calls of a list.
 pub const MAX_CALLS: usize = 6;
 
-/// A list of calls; one in eight changes the curve at every call but the last, which evaluates it.
+/// A list of calls; one in eight changes the curve at every call but the last, which reads it.
 pub fn list(rng: &mut Rng, bounds: &Rectangle, grid: Option<Grid>) -> Vec<Call> {
     let length = 1 + rng.up_to(MAX_CALLS - 1);
     if !rng.one_in(8) {
         return (0..length).map(|_| call(rng, bounds, grid)).collect();
     }
     let mut calls: Vec<Call> = (1..length).map(|_| changing_call(rng, grid)).collect();
-    calls.push(Call::Evaluate(parameter_on(rng, grid)));
+    calls.push(reading(rng, grid));
     calls
 }
 
+/// Either reading, one in four of them by one sum.
+fn reading(rng: &mut Rng, grid: Option<Grid>) -> Call {
+    if rng.one_in(4) {
+        return Call::EvaluateSixteenths(sixteenth(rng));
+    }
+    Call::Evaluate(parameter_on(rng, grid))
+}
+
 fn call(rng: &mut Rng, bounds: &Rectangle, grid: Option<Grid>) -> Call {
-    match rng.below(20) {
-        0..=7 => Call::Evaluate(parameter_on(rng, grid)),
-        8..=15 => changing_call(rng, grid),
-        16 => Call::Bounds,
+    match rng.below(22) {
+        0..=9 => reading(rng, grid),
+        10..=17 => changing_call(rng, grid),
+        18 => Call::Bounds,
         _ => Call::Search(search(rng, bounds)),
     }
 }

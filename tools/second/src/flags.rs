@@ -143,7 +143,7 @@ impl Trial<'_> {
 const LONGEST: usize = curve_length(MAX_DEGREE);
 
 /// Which sides are not exact, as a sum: resistance low 1, high 2, reactance low 4, high 8.
-fn rounded_sides(exact: [bool; FOUR]) -> usize {
+pub fn rounded_sides(exact: [bool; FOUR]) -> usize {
     let worth = |side: usize| usize::from(!exact[side]) << side;
     (0..FOUR).map(worth).sum()
 }

@@ -24,6 +24,9 @@ impl Grid {
         rng.one_in(GRIDS).then(|| Grid::new(rng, degree))
     }
 
+    /// The grid whose curves are exact at every sixteenth.
+    pub const SIXTEENTHS: Grid = Grid { den: 16, step: 16 };
+
     fn new(rng: &mut Rng, degree: usize) -> Grid {
         let den = match rng.below(4) {
             0 => 1 << rng.between(1, 16),
@@ -90,7 +93,7 @@ impl Grid {
 }
 
 /// Moves one coordinate as a whole, which keeps its differences: to a limit, to any place, or not at all.
-fn shift(rng: &mut Rng, curve: &mut Curve, low: usize) {
+pub fn shift(rng: &mut Rng, curve: &mut Curve, low: usize) {
     let bounds = curve.bounds().expect("an accepted curve");
     let (down, up) = (-MAX_SIDE - bounds[low], MAX_SIDE - bounds[low + 1]);
     let any = rng.between(down, up);
@@ -102,7 +105,7 @@ fn shift(rng: &mut Rng, curve: &mut Curve, low: usize) {
 }
 
 /// Moves a side of a point outward by a few steps.
-fn move_outward(rng: &mut Rng, curve: &mut Curve) {
+pub fn move_outward(rng: &mut Rng, curve: &mut Curve) {
     let (k, side) = (rng.up_to(curve.degree), rng.up_to(3));
     let outward = if side % 2 == 0 { -1 } else { 1 };
     let moved = curve.points[k][side] + outward * rng.between(1, 3);

@@ -3,6 +3,7 @@
 use crate::call::{Call, Kept};
 use crate::model::{Curve, Parameter, MAX_DEGREE};
 use crate::natural::Natural;
+use crate::sixteenths::SIXTEENTHS;
 
 /// A degree, the start and width of the stretch that is left of the starting curve's, and a sum of
 /// steps. Start and width are over one common lower number.
@@ -36,12 +37,21 @@ impl Ledger {
     /// Feeds the ledger a call, but none of its answer. An accepted evaluation has an entry.
     pub fn feed(&mut self, call: &Call) -> Option<Entry> {
         match call {
-            Call::Evaluate(t) => return t.check().is_ok().then(|| self.entry(*t)),
+            Call::Evaluate(t) => return self.evaluate(*t),
+            Call::EvaluateSixteenths(j) => {
+                let (num, den) = (*j, SIXTEENTHS);
+                return self.evaluate(Parameter { num, den });
+            }
             Call::Subdivide(t, kept) if t.check().is_ok() => self.subdivide(*t, *kept),
             Call::Elevate if self.degree < MAX_DEGREE => self.elevate(),
             _ => {}
         }
         None
+    }
+
+    /// Either reading at a parameter: a j above 16 is refused as a num above den is.
+    fn evaluate(&self, t: Parameter) -> Option<Entry> {
+        t.check().is_ok().then(|| self.entry(t))
     }
 
     fn entry(&self, t: Parameter) -> Entry {
@@ -104,6 +114,13 @@ mod tests {
         let entry = ledger.feed(&Call::Evaluate(t(1, 2))).unwrap();
         assert_eq!(entry.upper.times(&12.into()), entry.lower.times(&5.into()));
         assert_eq!(entry.sum, 2 + 1 + 3 + 3);
+        let summed = ledger.feed(&Call::EvaluateSixteenths(8)).unwrap();
+        assert_eq!(
+            summed.upper.times(&entry.lower),
+            entry.upper.times(&summed.lower)
+        );
+        assert_eq!(summed.sum, entry.sum);
+        assert!(ledger.feed(&Call::EvaluateSixteenths(17)).is_none());
     }
 
     #[test]

@@ -1,4 +1,4 @@
-//! The second program: document 01 and document 02's points 1 to 3 written again in ordinary Rust, from
+//! The second program: document 01 and document 02's points 1 to 4 written again in ordinary Rust, from
 //! the papers and not from the proved code, and what runs it beside the proved library and the programs.
 #![forbid(unsafe_code)]
 
@@ -12,6 +12,7 @@ pub mod ledger;
 pub mod model;
 pub mod natural;
 pub mod search;
+pub mod sixteenths;
 
 // What is drawn.
 pub mod call;
@@ -21,6 +22,7 @@ pub mod given;
 pub mod grid;
 pub mod pattern;
 pub mod rng;
+pub mod sums;
 
 // What is compared.
 pub mod calls;
@@ -32,6 +34,7 @@ pub mod lists;
 pub mod measured;
 pub mod panel;
 pub mod programs;
+pub mod summed;
 pub mod trial;
 pub mod verdicts;
 
@@ -48,3 +51,5 @@ mod bridge_faults;
 mod faults;
 #[cfg(test)]
 mod flag_faults;
+#[cfg(test)]
+mod sixteenth_faults;

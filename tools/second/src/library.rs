@@ -5,6 +5,7 @@ use second::door::Door;
 
 pub const LIBRARY: Door = Door {
     evaluate: raw::evaluate,
+    evaluate_sixteenths: raw::evaluate_sixteenths,
     subdivide: raw::subdivide,
     elevate: raw::elevate,
     bounds: raw::bounds,

@@ -13,6 +13,10 @@ use crate::trial::{Outcome, Trial, SHORT};
 
 /// Demand 3 is tried on one in so many lists.
 const CLAIMED: u64 = 6;
+/// Where the first readings and the second ones are counted: by the changes before, by those refused, and
+/// where nothing was rounded by the changes before.
+const STAGED: [Line; 3] = [Line::Changes, Line::Refusals, Line::ExactReadings];
+const SUMMED: [Line; 3] = [Line::SummedChanges, Line::SummedRefusals, Line::SummedExact];
 /// The bounds about which boxes are drawn for a curve that has none.
 const NO_BOUNDS: Rectangle = [-9, 9, -9, 9];
 
@@ -36,9 +40,10 @@ impl List {
     }
 }
 
-/// An accepted evaluation: the ledger's entry, the sides that came, what came before it, and whether
-/// nothing was rounded from the starting curve on.
+/// An accepted evaluation, in stages or by one sum: the ledger's entry, the sides that came, what came
+/// before it, and whether nothing was rounded from the starting curve on.
 struct Evaluation {
+    summed: bool,
     entry: Entry,
     sides: Rectangle,
     changes: usize,
@@ -97,8 +102,14 @@ fn step(trial: &mut Trial, list: &mut List, call: &Call) -> Result<Option<Evalua
             if let Ok(load) = &outcome {
                 trial.try_load(&list.given, *t, load, list.before())?;
             }
-            let entry = feed(list, call, &outcome);
-            return evaluation(outcome, entry, list);
+            return evaluation(list, call, outcome);
+        }
+        Call::EvaluateSixteenths(j) => {
+            let outcome = trial.evaluate_sixteenths(&list.given, *j)?;
+            if let Ok(load) = &outcome {
+                trial.try_sixteenth(&list.given, *j, load)?;
+            }
+            return evaluation(list, call, outcome);
         }
         Call::Subdivide(t, kept) => {
             let outcome = trial.subdivide(&list.given, *t)?;
@@ -148,12 +159,14 @@ fn change(list: &mut List, call: &Call, outcome: Outcome<Flagged<Given>>) {
 
 /// The ledger must say of the same evaluations as the library that they are accepted.
 fn evaluation(
+    list: &mut List,
+    call: &Call,
     outcome: Outcome<Flagged<[i32; 4]>>,
-    entry: Option<Entry>,
-    list: &List,
 ) -> Result<Option<Evaluation>, String> {
+    let entry = feed(list, call, &outcome);
     match (outcome, entry) {
         (Ok(load), Some(entry)) => Ok(Some(Evaluation {
+            summed: matches!(call, Call::EvaluateSixteenths(_)),
             entry,
             sides: load.result.map(i64::from),
             changes: list.changes,
@@ -181,14 +194,21 @@ fn try_claim(
         let Evaluation { entry, exact, .. } = evaluation;
         let steps = if *exact { 0 } else { entry.sum };
         let held = claim(start, &inside, entry, steps, &evaluation.sides);
-        trial.tally.compare(Row::Claim, held.is_ok(), || {
+        let row = if evaluation.summed {
+            Row::ClaimSummed
+        } else {
+            Row::Claim
+        };
+        trial.tally.compare(row, held.is_ok(), || {
             let points = start.control_points();
             format!("{}\nfrom {points:?}\nafter {calls:?}", held.unwrap_err())
         })?;
-        trial.tally.cover(Line::Changes, evaluation.changes);
-        trial.tally.cover(Line::Refusals, evaluation.refusals);
+        let lines = if evaluation.summed { SUMMED } else { STAGED };
+        let [changes, refusals, exact_readings] = lines;
+        trial.tally.cover(changes, evaluation.changes);
+        trial.tally.cover(refusals, evaluation.refusals);
         if *exact {
-            trial.tally.cover(Line::ExactReadings, evaluation.changes);
+            trial.tally.cover(exact_readings, evaluation.changes);
         }
     }
     Ok(())

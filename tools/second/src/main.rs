@@ -14,7 +14,7 @@ use second::programs::{card, examples, replay, slow};
 use second::rng::Rng;
 use second::tally::Tally;
 use second::trial::Trial;
-use second::{cards, lists, measured, panel};
+use second::{cards, lists, measured, panel, summed};
 use std::path::{Path, PathBuf};
 use std::process::ExitCode;
 use std::time::Instant;
@@ -23,6 +23,8 @@ use std::time::Instant;
 /// have another degree, so this many are drawn for 250,000 accepted ones of each degree.
 const LISTS_OF_EACH_DEGREE: usize = 288_000;
 const LISTS_IN_A_PART: usize = 8_000;
+/// Curves of each degree that are read at every sixteenth.
+const SUMMED_OF_EACH_DEGREE: usize = 5_000;
 const CARDS_READ: usize = 400_000;
 /// How often the writer is tried with each length of buffer, at each degree.
 const WRITTEN_EACH: usize = 80;
@@ -78,6 +80,12 @@ fn run_library(tally: &mut Tally) -> Result<(), String> {
     })?;
     in_parts(4, PARTS, tally, |_, rng, tally| {
         (0..PANEL_CALLS / PARTS).try_for_each(|_| panel::compare(&mut trial(rng, tally)))
+    })?;
+    in_parts(13, PARTS, tally, |_, rng, tally| {
+        let mut degrees = (1..=MAX_DEGREE)
+            .cycle()
+            .take(MAX_DEGREE * SUMMED_OF_EACH_DEGREE / PARTS);
+        degrees.try_for_each(|degree| summed::compare(&mut trial(rng, tally), degree))
     })?;
     run_bridge(tally)
 }

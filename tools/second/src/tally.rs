@@ -18,7 +18,7 @@ fn counter<T: Clone + Default>(counters: &mut Vec<T>, index: usize) -> &mut T {
 }
 
 /// A line with more values than this is printed by its least count alone.
-const PRINTED: usize = 13;
+const PRINTED: usize = 14;
 
 impl Tally {
     /// Counts one comparison. A disagreement is told by the message.

@@ -13,7 +13,7 @@ pub const PRINTED: &[u8] = b"         0         3        -3         2
          0         2        -2         0
 ";
 
-const EXAMPLES: [(&str, &str); 18] = [
+const EXAMPLES: [(&str, &str); 20] = [
     // The card read at 1/2 and at 2/4, its two ends and its bounds.
     (
         "1 / 0 1 -3 -3 / 1 3 0 2 / 1 1 2 / 1 2 4 / 1 0 1 / 1 7 7 / 5 / 0",
@@ -24,6 +24,13 @@ const EXAMPLES: [(&str, &str); 18] = [
         "2 / 1 1 0 0 / 0 0 0 0 / 3 3 0 0 / 1 1 2 / 2 1 2 / 0",
         "0 2 / 0 0 2 0 0 2 0 / 0 2 1 1 0 0 0 1 0 0 0 2 0 0 0 2 0 0 1 2 0 0 3 3 0 0 0",
     ),
+    // The same by one sum at 8/16, at the ends and past them, and of the right piece, whose sides were rounded.
+    (
+        "2 / 1 1 0 0 / 0 0 0 0 / 3 3 0 0 / 7 8 / 7 0 / 7 16 / 7 17 / 7 7 / 3 1 2 / 7 12 / 0",
+        "0 2 / 0 1 1 0 0 2 1 / 0 1 1 0 0 2 1 / 0 3 3 0 0 2 1 / 15 0 / 0 0 1 0 0 2 0 / 0 2 1 1 0 0 0 1 0 0 0 2 0 0 0 2 0 0 1 2 0 0 3 3 0 0 0 / 0 2 3 0 0 4 0",
+    ),
+    // A refused card leaves the zero curve, whose degree is refused before j.
+    ("1 / 0 1 0 0 / 1 0 0 0 / 7 17 / 7 8 / 0", "3 1 / 1 0 / 1 0"),
     // The same in the other coordinate; the right piece is kept and read at its ends.
     (
         "2 / 0 0 1 1 / 0 0 0 0 / 0 0 3 3 / 3 1 2 / 1 0 1 / 1 1 1 / 0",

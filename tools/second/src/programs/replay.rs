@@ -2,10 +2,10 @@
 //! a text is malformed.
 
 use crate::call::{Call, Kept};
-use crate::card::{COLUMN, LINE_END};
+use crate::card::{number_of, COLUMN, LINE_END};
 use crate::coverage::{Line, Row};
 use crate::damage::damage;
-use crate::draw::{curve, parameter};
+use crate::draw::{curve, parameter, sixteenth};
 use crate::model::{Parameter, MAX_DEGREE, MAX_DEN};
 use crate::programs::examples;
 use crate::programs::process::{run, Written};
@@ -51,6 +51,8 @@ pub fn compare_cases(program: &Path, rng: &mut Rng, tally: &mut Tally) -> Result
     let answers = answers_to(&text, true).lines;
     let lines = answers.split(|byte| *byte == LINE_END);
     lines.for_each(|line| count_line(line, tally));
+    let calls = text.split(|byte| *byte == LINE_END);
+    calls.for_each(|line| count_sixteenth(line, tally));
     Ok(())
 }
 
@@ -75,14 +77,16 @@ pub fn compare_long(program: &Path, rng: &mut Rng, tally: &mut Tally) -> Result<
 }
 
 fn long_list_call(k: usize, rng: &mut Rng) -> Call {
-    match k % 3 {
+    match k % 4 {
         0 => Call::Subdivide(parameter(rng), Kept::Left),
         1 => Call::Subdivide(parameter(rng), Kept::Right),
-        _ => Call::Evaluate(parameter(rng)),
+        2 => Call::Evaluate(parameter(rng)),
+        _ => Call::EvaluateSixteenths(sixteenth(rng)),
     }
 }
 
-/// Cuts with large dens, so that the places are about as long as can be shown, each read after the cut.
+/// Cuts with large dens, so that the places are about as long as can be shown, each read after the cut, in
+/// stages and by one sum.
 fn deep_case(rng: &mut Rng) -> Case {
     let card = curve(rng, 1);
     let large = |rng: &mut Rng| {
@@ -95,6 +99,7 @@ fn deep_case(rng: &mut Rng) -> Case {
         [
             Call::Subdivide(large(rng), kept),
             Call::Evaluate(large(rng)),
+            Call::EvaluateSixteenths(sixteenth(rng)),
         ]
     };
     let calls = (0..5).flat_map(|_| cut(rng)).collect();
@@ -119,6 +124,20 @@ fn count_line(line: &[u8], tally: &mut Tally) {
     } else if line.len() > EVALUATED {
         tally.cover(Line::ReplayFlags, 2 + lit(line.len()));
     }
+}
+
+/// Counts the j of a second reading, whose call line is the only one of two columns.
+fn count_sixteenth(line: &[u8], tally: &mut Tally) {
+    if line.len() != 2 * COLUMN {
+        return;
+    }
+    let kind = match number_of(&line[COLUMN..]) {
+        Some(0) => 0,
+        Some(1..=15) => 1,
+        Some(16) => 2,
+        _ => 3,
+    };
+    tally.cover(Line::ReplaySixteenths, kind);
 }
 
 fn compare(

@@ -42,6 +42,10 @@ impl Session {
                 let load = self.curve.evaluate(*t)?;
                 return Ok(self.evaluated(&load, &entry.expect("an accepted evaluation")));
             }
+            Call::EvaluateSixteenths(j) => {
+                let load = self.curve.evaluate_sixteenths(*j)?;
+                return Ok(self.evaluated(&load, &entry.expect("an accepted reading")));
+            }
             Call::Subdivide(t, kept) => {
                 let pieces = self.curve.subdivide(*t)?;
                 let [left, right] = pieces.result;
@@ -67,7 +71,7 @@ impl Session {
         Ok(line_of(&answer))
     }
 
-    /// The line of an evaluation: the sides, the ledger's sum, the exact flag, and behind two spaces the
+    /// The line of either reading: the sides, the ledger's sum, the exact flag, and behind two spaces the
     /// place.
     fn evaluated(&self, load: &Flagged<Rectangle>, entry: &Entry) -> Vec<u8> {
         let last = [entry.sum, load.exact.into()];
@@ -109,6 +113,12 @@ mod tests {
         let read = session.answer(&Call::Evaluate(t(3, 6)));
         assert!(
             read.ends_with(b"         2         0  3/4\n"),
+            "{}",
+            read.escape_ascii()
+        );
+        let read = session.answer(&Call::EvaluateSixteenths(4));
+        assert!(
+            read.ends_with(b"         2         0  5/8\n"),
             "{}",
             read.escape_ascii()
         );

@@ -45,6 +45,7 @@ pub fn call_line(call: &Call) -> Vec<u8> {
             let last = [search.depth, search.budget].map(i64::from);
             line_of(&[&[6], &search.limits[..], &last].concat())
         }
+        Call::EvaluateSixteenths(j) => line_of(&[7, (*j).into()]),
     }
 }
 
@@ -93,7 +94,7 @@ struct Reader<'a> {
 
 /// The numbers that a column may have.
 const DEGREE: RangeInclusive<i64> = 1..=MAX_DEGREE as i64;
-const KIND: RangeInclusive<i64> = 0..=6;
+const KIND: RangeInclusive<i64> = 0..=7;
 const WORD: RangeInclusive<i64> = 0..=u32::MAX as i64;
 const BOX_SIDE: RangeInclusive<i64> = i32::MIN as i64..=i32::MAX as i64;
 const ANY: RangeInclusive<i64> = i64::MIN..=i64::MAX;
@@ -150,7 +151,11 @@ impl Reader<'_> {
             3 => Call::Subdivide(self.parameter()?, Kept::Right),
             4 => self.line([KIND]).map(|_| Call::Elevate)?,
             5 => self.line([KIND]).map(|_| Call::Bounds)?,
-            _ => Call::Search(self.search()?),
+            6 => Call::Search(self.search()?),
+            _ => {
+                let [_, j] = self.line([KIND, WORD])?;
+                Call::EvaluateSixteenths(j as u32)
+            }
         }))
     }
 
@@ -246,8 +251,11 @@ mod tests {
         let sound = line_of(&[0, 1]);
         let after = |line: &[u8]| answers_to(&[&card, line].concat(), false);
         assert_eq!(after(b""), whole(sound.clone()));
-        let bad: [(&[u8], usize); 9] = [
-            (&line_of(&[7]), 1),
+        let bad: [(&[u8], usize); 12] = [
+            (&line_of(&[8]), 1),
+            (&line_of(&[7]), 11),
+            (&line_of(&[7, -1]), 11),
+            (&line_of(&[7, 8, 16]), 21),
             (&line_of(&[1, -1, 2]), 11),
             (&line_of(&[1, 1, 4_294_967_296]), 21),
             (&line_of(&[6, 2_147_483_648, 0, 0, 0, 0, 1]), 11),

@@ -1,10 +1,10 @@
--- `rect_at` meets its contract: four sides in their order.
+-- `short_rect_at` meets its contract: four sides in their order.
 -- Assumes nothing.
 use borrow.Author.Needs.{needs}
 use Rattle.curve.proofs.Machine.{told}
 use Rattle.foreign.specs.Numbers.{rectAt}
-use Rattle.foreign.proofs.given.rect_at.Statement.{statement}
-use Rattle.foreign.proofs.given.rect_at.Tie as tie
+use Rattle.foreign.proofs.given.short_rect_at.Statement.{statement}
+use Rattle.foreign.proofs.given.short_rect_at.Tie as tie
 
 returns : tie.Need-returns
 unfolding rectAt
@@ -24,8 +24,8 @@ returns c =
       xhigh .ensures,
     )
 
-pub rect-at-spec : {M : Type 1} → statement M
-rect-at-spec =
+pub short-rect-at-spec : {M : Type 1} → statement M
+short-rect-at-spec =
     tie.close
     (tie.spec
     (λ c κs. search needs)

@@ -1,0 +1,85 @@
+-- What it means that the summed reading is not refused, and its answer by whether it is.
+-- Assumes nothing.
+use mathlib.Core.Path.{_≡_, refl, sym, _∙_, subst}
+use mathlib.Core.Bool.{true, false, _&&_}
+use Prim.Native.Nat.{ℕ, _+_, _≤_}
+use native.Mathlib.Omega.{arith}
+use borrow.Author.Tests.{le-leb}
+use lib.Dec.{T, leb, eqb, leb→le, le→leb}
+use Rattle.rational.proofs.Truth.{and-both, both-and}
+use Rattle.bernstein.proofs.EveryMap.{all-at, all-of}
+use Rattle.curve.specs.declared.Curve.{Curve}
+use Rattle.curve.specs.declared.Evaluation.{Evaluation}
+use Rattle.curve.specs.Rect.{sidesInRange, sidesOrdered}
+use Rattle.curve.specs.Curve.{point}
+use Rattle.curve.specs.Refusals.{none, curveRefusal, Accepted}
+use Rattle.curve.proofs.Tests.{true-of, or-split, or-none, unless-holds, unless-none}
+use Rattle.curve.proofs.Accepted.{Facts, facts-accepted, number-accepted, accepted-facts, range-sides, sides-range, order-sides, sides-order}
+use Rattle.curve.proofs.Answers.{evaluation, noEvaluation, where-none, where-some, in-both}
+use Rattle.sixteenths.specs.Weights.{sixteenths, highest}
+use Rattle.sixteenths.specs.Sixteenths.{summedLoad, summedExact, numeratorRefusal, sixteenthsRefusal, evaluatedSixteenths}
+use Rattle.sixteenths.specs.Inner.{goodBelow, hasWeights, accepts}
+use Rattle.sixteenths.proofs.Summing.{good}
+
+pub number-numerator : (j : ℕ) → numeratorRefusal j .number ≡ 0 → j ≤ sixteenths
+unfolding numeratorRefusal
+number-numerator j h = leb→le j sixteenths (unless-holds (leb j sixteenths) 14 0 h)
+
+numerator-none : (j : ℕ) → j ≤ sixteenths → numeratorRefusal j ≡ none
+unfolding numeratorRefusal
+numerator-none j h = unless-none (leb j sixteenths) 15 (le→leb j sixteenths h)
+
+module _ (c : Curve) (j : ℕ) where
+  pub number-facts : sixteenthsRefusal c j .number ≡ 0 → Accepted c × (j ≤ sixteenths)
+  unfolding sixteenthsRefusal
+  number-facts h = let (curve, place) = or-split (curveRefusal c) (numeratorRefusal j) h in (number-accepted c curve, number-numerator j place)
+
+  -- the refusal of an accepted curve's reading is that of j
+  pub refusal-numerator : Accepted c → sixteenthsRefusal c j ≡ numeratorRefusal j
+  unfolding sixteenthsRefusal
+  refusal-numerator a = or-none (curveRefusal c) (numeratorRefusal j) a
+
+  -- ---- the answer
+
+  pub summed-accepted : Accepted c → j ≤ sixteenths → evaluatedSixteenths c j ≡ evaluation (summedLoad c j) (summedExact c j) none
+  unfolding evaluatedSixteenths
+  summed-accepted a h =
+      where-none (evaluation (summedLoad c j) (summedExact c j)) noEvaluation (sixteenthsRefusal c j) (refusal-numerator a ∙ numerator-none j h)
+
+  pub summed-refused : eqb (sixteenthsRefusal c j .number) 0 ≡ false → evaluatedSixteenths c j ≡ noEvaluation (sixteenthsRefusal c j)
+  unfolding evaluatedSixteenths
+  summed-refused = where-some (evaluation (summedLoad c j) (summedExact c j)) noEvaluation (sixteenthsRefusal c j)
+
+  pub summed-refusal : evaluatedSixteenths c j .refusal ≡ sixteenthsRefusal c j
+  unfolding evaluatedSixteenths
+  summed-refusal = in-both (evaluation (summedLoad c j) (summedExact c j)) noEvaluation (sixteenthsRefusal c j) (λ (e : Evaluation). e .refusal) (sixteenthsRefusal c j) refl refl
+
+  -- ---- the tests of one pass
+
+  good-facts : hasWeights (c .degree) j ≡ true → goodBelow (c .degree + 1) (point c) ≡ true → Facts c
+  good-facts weights all =
+      let (degree, place) = and-both (leb 1 (c .degree) && leb (c .degree) highest) (leb j sixteenths) weights in
+      let (some, few) = and-both (leb 1 (c .degree)) (leb (c .degree) highest) degree in
+      record {
+        some = leb→le 1 (c .degree) (subst T (sym some) tt);
+        few = leb→le (c .degree) highest (subst T (sym few) tt);
+        inRange = λ k h. range-sides (point c k) (subst T (sym (tests k h .0)) tt);
+        ordered = λ k h. order-sides (point c k) (subst T (sym (tests k h .1)) tt);
+      }
+    where
+      tests : (k : ℕ) → k ≤ c .degree → (sidesInRange (point c k) ≡ true) × (sidesOrdered (point c k) ≡ true)
+      tests k h = and-both (sidesInRange (point c k)) (sidesOrdered (point c k)) (all-at (c .degree + 1) (good (point c)) all k (omega arith))
+
+  pub accepts-facts : accepts c j ≡ true → Accepted c × (j ≤ sixteenths)
+  accepts-facts h =
+      let (weights, all) = and-both (hasWeights (c .degree) j) (goodBelow (c .degree + 1) (point c)) h in
+      let (degree, place) = and-both (leb 1 (c .degree) && leb (c .degree) highest) (leb j sixteenths) weights in
+      (facts-accepted (good-facts weights all), leb→le j sixteenths (subst T (sym place) tt))
+
+  pub facts-accepts : Accepted c → j ≤ sixteenths → accepts c j ≡ true
+  facts-accepts a h =
+      let f = accepted-facts c a in
+      both-and (both-and (both-and (le-leb 1 (c .degree) (f .some)) (le-leb (c .degree) highest (f .few))) (le-leb j sixteenths h))
+      (all-of (c .degree + 1) (good (point c)) (λ k l. both-and
+      (true-of (sidesInRange (point c k)) (sides-range (point c k) (f .inRange k (omega arith))))
+      (true-of (sidesOrdered (point c k)) (sides-order (point c k) (f .ordered k (omega arith))))))

@@ -1,0 +1,12 @@
+-- Laws of the definitions in specs/, and the promises.
+pub mod Table
+pub mod Lifted
+pub mod Rows
+pub mod Powers
+pub mod Arms
+pub mod Summing
+pub mod Reading
+pub mod Answers
+pub mod Loads
+pub mod Promises
+pub mod Passes

@@ -1,0 +1,4 @@
+pub mod Weights
+pub mod Sixteenths
+pub mod Promises
+pub mod Inner
