@@ -25,6 +25,7 @@ mod results;
 
 use answers::answer_of;
 use answers::with_room;
+use curve::Evaluation;
 use given::curve_from;
 use given::measurement_from;
 use given::rect_at;
@@ -41,6 +42,18 @@ use results::put_ohms;
 use results::put_rect;
 use results::put_verdict;
 
+// Gives a reading's load, its ohms and its flag, and answers its refusal or 12.
+fn give_evaluation(answer: Evaluation, load: &mut [i32], ohms: &mut [f32], exact: &mut u32) -> u64
+    ensures { λ r. ⌜ GivesEvaluation answer (now (load .entry)) (now (ohms .entry)) (now (exact .entry)) r (now (load .exit)) (now (ohms .exit)) (now (exact .exit)) ⌝ }
+{
+    let first = with_room(answer.refusal, RECT_LENGTH, load.len());
+    let refusal = with_room(first, RECT_LENGTH, ohms.len());
+    put_rect(load, refusal, answer.load);
+    put_ohms(ohms, refusal, answer.ohms);
+    put_exact(exact, refusal, answer.exact);
+    answer_of(refusal)
+}
+
 // The load at num/den, its ohms, and whether nothing was rounded; refusals 1 to 5 and 12.
 #[no_mangle]
 pub extern "C" fn jusqani_evaluate(
@@ -55,12 +68,7 @@ pub extern "C" fn jusqani_evaluate(
     ensures { λ r. ⌜ GivesEvaluation (evaluated (curveFrom degree (now (sides .entry))) num den) (now (load .entry)) (now (ohms .entry)) (now (exact .entry)) r (now (load .exit)) (now (ohms .exit)) (now (exact .exit)) ⌝ }
 {
     let answer = curve::evaluate(curve_from(degree, sides), num, den);
-    let first = with_room(answer.refusal, RECT_LENGTH, load.len());
-    let refusal = with_room(first, RECT_LENGTH, ohms.len());
-    put_rect(load, refusal, answer.load);
-    put_ohms(ohms, refusal, answer.ohms);
-    put_exact(exact, refusal, answer.exact);
-    answer_of(refusal)
+    give_evaluation(answer, load, ohms, exact)
 }
 
 // The load at j/16 by the Bernstein sum rounded once, its ohms, and whether nothing was rounded; refusals 1 to 3, 15 and 12.
@@ -76,12 +84,7 @@ pub extern "C" fn jusqani_evaluate_sixteenths(
     ensures { λ r. ⌜ GivesEvaluation (evaluatedSixteenths (curveFrom degree (now (sides .entry))) j) (now (load .entry)) (now (ohms .entry)) (now (exact .entry)) r (now (load .exit)) (now (ohms .exit)) (now (exact .exit)) ⌝ }
 {
     let answer = sixteenths::evaluate_sixteenths(curve_from(degree, sides), j);
-    let first = with_room(answer.refusal, RECT_LENGTH, load.len());
-    let refusal = with_room(first, RECT_LENGTH, ohms.len());
-    put_rect(load, refusal, answer.load);
-    put_ohms(ohms, refusal, answer.ohms);
-    put_exact(exact, refusal, answer.exact);
-    answer_of(refusal)
+    give_evaluation(answer, load, ohms, exact)
 }
 
 // The two pieces at num/den, and whether nothing was rounded; refusals 1 to 5 and 12.

@@ -1,7 +1,7 @@
 -- Laws of the definitions in specs/, and the promises.
 pub mod Table
 pub mod Lifted
-pub mod Rows
+pub mod Blocks
 pub mod Powers
 pub mod Arms
 pub mod Summing

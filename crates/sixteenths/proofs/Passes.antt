@@ -1,4 +1,4 @@
--- A pass over the points with a row of weights gives the sums with these weights, and asks that none is too large.
+-- A pass over the points with the weights at j/16 asks that none is too large, and gives the sums with the weights of its degree.
 -- Assumes nothing.
 use mathlib.Core.Path.{_≡_, sym, subst}
 use mathlib.Core.Bool.{true}
@@ -10,8 +10,8 @@ use Rattle.bernstein.specs.WholeSum.{weight}
 use Rattle.curve.specs.declared.Curve.{Curve}
 use Rattle.curve.specs.Curve.{point}
 use Rattle.sixteenths.specs.declared.sums.Pass.{Pass}
-use Rattle.sixteenths.specs.Weights.{sixteenths, highest}
-use Rattle.sixteenths.specs.Inner.{largestWeight, Row, Summed, goodBelow}
+use Rattle.sixteenths.specs.Weights.{sixteenths, highest, start}
+use Rattle.sixteenths.specs.Inner.{largestWeight, BlockOf, Summed, goodBelow}
 use Rattle.sixteenths.proofs.Table.{weight-most}
 use Rattle.sixteenths.proofs.Summing.{summed-agree}
 
@@ -19,15 +19,15 @@ use Rattle.sixteenths.proofs.Summing.{summed-agree}
 abbrev pub Gives : (ℕ → ℕ) → Curve → ℕ → Pass → Type 0
 Gives W c n r = (r .good ≡ goodBelow (n + 1) (point c)) × (r .good ≡ true → Summed W (point c) (n + 1) (r .sums))
 
-module _ (n j : ℕ) (w : List ℕ) (from : ℕ) (row : Row n j w from) (some : 1 ≤ n) (few : n ≤ highest) (most : j ≤ sixteenths) where
-  pub light : (k : ℕ) → k ≤ n → getD w (from + k) 0 ≤ largestWeight
-  light k h = subst (λ (m : ℕ). m ≤ largestWeight) (sym (row .entry k h)) (weight-most n j k some few most h)
+module _ (n j : ℕ) (some : 1 ≤ n) (few : n ≤ highest) (most : j ≤ sixteenths) (w : List ℕ) (weights : BlockOf j w) where
+  pub light : (k : ℕ) → k ≤ n → getD w (start n + k) 0 ≤ largestWeight
+  light k h = subst (λ (m : ℕ). m ≤ largestWeight) (sym (weights .entry n k some few h)) (weight-most n j k some few most h)
 
   pub gives :
-      (c : Curve) → c .degree ≡ n → (r : Pass) → Gives (λ k. getD w (from + k) 0) c n r →
+      (c : Curve) → c .degree ≡ n → (r : Pass) → Gives (λ k. getD w (start n + k) 0) c n r →
       Gives (weight (c .degree) (sixteenths - j) j) c (c .degree) r
   gives c is r given =
       subst (λ (m : ℕ). Gives (weight m (sixteenths - j) j) c m r) (sym is) (
         given .0,
-        λ good. summed-agree _ _ (point c) (n + 1) (r .sums) (λ k h. row .entry k (omega arith)) (given .1 good),
+        λ good. summed-agree _ _ (point c) (n + 1) (r .sums) (λ k h. weights .entry n k some few (omega arith)) (given .1 good),
       )

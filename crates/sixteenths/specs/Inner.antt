@@ -19,11 +19,11 @@ use Rattle.curve.specs.Ohms.{checkedOhms}
 use Rattle.curve.specs.Rect.{Coordinate, resistance, reactance, side, sidesInRange, sidesOrdered}
 use Rattle.curve.specs.Curve.{point}
 use Rattle.sixteenths.specs.declared.sums.Sums.{Sums}
-use Rattle.sixteenths.specs.Weights.{sixteenths, highest}
+use Rattle.sixteenths.specs.Weights.{sixteenths, highest, start}
 
--- the weights of degree n at j/16 stand in a list from an index on
-pub record Row (n j : ℕ) (weights : List ℕ) (from : ℕ) : Type 0 where
-  pub entry : (k : ℕ) → k ≤ n → getD weights (from + k) 0 ≡ weight n (sixteenths - j) j k
+-- a list holds the weights at j/16, of each degree where the table's entries of one j have them
+pub record BlockOf (j : ℕ) (list : List ℕ) : Type 0 where
+  pub entry : (n k : ℕ) → 1 ≤ n → n ≤ highest → k ≤ n → getD list (start n + k) 0 ≡ weight n (sixteenths - j) j k
 
 -- the largest weight, 16 to the power 8, and how large a weight times a lifted side can be, 2 to the power 57
 abbrev pub largestWeight : ℕ

@@ -14,15 +14,12 @@ sixteenths = 16
 abbrev pub highest : ℕ
 highest = 8
 
--- all entries, those of one j, and of these the ones of the degrees below the highest
+-- all entries, and those of one j
 abbrev pub entries : ℕ
 entries = 748
 
 abbrev pub block : ℕ
 block = 44
-
-abbrev pub lower : ℕ
-lower = 35
 
 -- where the entries of degree n begin among those of one j
 unfoldable pub start : ℕ → ℕ

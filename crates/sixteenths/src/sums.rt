@@ -8,13 +8,12 @@ ghost use Rattle.bernstein.specs.WholeSum.{weight};
 ghost use Rattle.curve.specs.Rect.{sidesInRange, sidesOrdered};
 ghost use Rattle.curve.specs.Curve.{point};
 ghost use Rattle.curve.specs.Inner.{Side, Held};
-ghost use Rattle.sixteenths.specs.Weights.{sixteenths, highest, lower};
+ghost use Rattle.sixteenths.specs.Weights.{sixteenths, highest, block};
 ghost use Rattle.sixteenths.specs.Inner.{largestWeight, lifted, addedTo, Roomy, Summed, goodBelow, hasWeights, accepts};
 use crate::SIXTEENTHS;
+use crate::weights::BLOCK;
 use crate::weights::HIGHEST_DEGREE;
-use crate::weights::LOWER_ENTRIES;
-use crate::weights::highest_weights_at;
-use crate::weights::lower_weights_at;
+use crate::weights::weights_at;
 use curve::Curve;
 use curve::MAX_SIDE;
 use curve::Rect;
@@ -82,9 +81,9 @@ fn is_good(p: Rect) -> bool
 }
 
 // One pass over the points of a curve of degree n, whose weights begin at an index. It ends at a point whose sides are not in range and in order.
-fn sums_from(c: Curve, w: [u64; LOWER_ENTRIES], n: usize, from: usize) -> Pass
+fn sums_from(c: Curve, w: [u64; BLOCK], n: usize, from: usize) -> Pass
     requires { ⌜ n ≤ highest ⌝ }
-    requires { ⌜ from + n < lower ⌝ }
+    requires { ⌜ from + n < block ⌝ }
     requires { ⌜ ((k : ℕ) → k ≤ n → getD w (from + k) 0 ≤ largestWeight) ⌝ }
     ensures { λ r. ⌜ (r .good ≡ goodBelow (n + 1) (point c)) × (r .good ≡ true → Summed (λ k. getD w (from + k) 0) (point c) (n + 1) (r .sums)) ⌝ }
 {
@@ -102,37 +101,24 @@ fn sums_from(c: Curve, w: [u64; LOWER_ENTRIES], n: usize, from: usize) -> Pass
     Pass { good: true, sums }
 }
 
-// The sums of a curve below the highest degree.
-fn lower_sums_at(c: Curve, j: u32) -> Pass
-    requires { ⌜ 1 ≤ c .degree ⌝ }
-    requires { ⌜ c .degree < highest ⌝ }
-    requires { ⌜ j ≤ sixteenths ⌝ }
-    ensures { λ r. ⌜ (r .good ≡ goodBelow (c .degree + 1) (point c)) × (r .good ≡ true → Summed (weight (c .degree) (sixteenths - j) j) (point c) (c .degree + 1) (r .sums)) ⌝ }
-{
-    let w = lower_weights_at(j);
-    let degree = c.degree;
-    match degree {
-        1 => sums_from(c, w, 1, 0),
-        2 => sums_from(c, w, 2, 2),
-        3 => sums_from(c, w, 3, 5),
-        4 => sums_from(c, w, 4, 9),
-        5 => sums_from(c, w, 5, 14),
-        6 => sums_from(c, w, 6, 20),
-        _ => sums_from(c, w, 7, 27),
-    }
-}
-
-// The sums of a curve of any degree from 1 to the highest.
+// The sums of a curve of any degree from 1 to the highest. Each arm asks for the weights by itself, so that only those of its degree are loaded.
 fn sums_at(c: Curve, j: u32) -> Pass
     requires { ⌜ 1 ≤ c .degree ⌝ }
     requires { ⌜ c .degree ≤ highest ⌝ }
     requires { ⌜ j ≤ sixteenths ⌝ }
     ensures { λ r. ⌜ (r .good ≡ goodBelow (c .degree + 1) (point c)) × (r .good ≡ true → Summed (weight (c .degree) (sixteenths - j) j) (point c) (c .degree + 1) (r .sums)) ⌝ }
 {
-    if c.degree < HIGHEST_DEGREE {
-        return lower_sums_at(c, j);
+    let degree = c.degree;
+    match degree {
+        1 => sums_from(c, weights_at(j), 1, 0),
+        2 => sums_from(c, weights_at(j), 2, 2),
+        3 => sums_from(c, weights_at(j), 3, 5),
+        4 => sums_from(c, weights_at(j), 4, 9),
+        5 => sums_from(c, weights_at(j), 5, 14),
+        6 => sums_from(c, weights_at(j), 6, 20),
+        7 => sums_from(c, weights_at(j), 7, 27),
+        _ => sums_from(c, weights_at(j), 8, 35),
     }
-    sums_from(c, highest_weights_at(j), 8, 0)
 }
 
 // Whether the table has the weights of a degree and a j.

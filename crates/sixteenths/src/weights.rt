@@ -4,16 +4,14 @@
 ghost use mathlib.Core.Path.{_≡_};
 ghost use Prim.Native.Nat.{ℕ, _+_, _≤_, _<_};
 ghost use lib.ListN.{getD};
-ghost use Rattle.sixteenths.specs.Weights.{sixteenths, highest, entries, lower, start, Rule};
-ghost use Rattle.sixteenths.specs.Inner.{Row};
+ghost use Rattle.sixteenths.specs.Weights.{sixteenths, entries, block, Rule};
+ghost use Rattle.sixteenths.specs.Inner.{BlockOf};
 
 // The highest degree that the table has.
 pub const HIGHEST_DEGREE: u32 = 8;
 
-// The entries of one j for the degrees below the highest, for the highest one, and all entries.
-pub const LOWER_ENTRIES: usize = 35;
-
-const HIGHEST_ENTRIES: usize = 9;
+// The entries of one j, and all entries.
+pub const BLOCK: usize = 44;
 
 const ENTRIES: usize = 748;
 
@@ -911,71 +909,43 @@ fn weights() -> [u64; ENTRIES]
     WEIGHTS
 }
 
-// So many entries from an index on.
-fn entries_from(w: [u64; ENTRIES], from: usize, count: usize) -> [u64; LOWER_ENTRIES]
-    requires { ⌜ count ≤ lower ⌝ }
-    requires { ⌜ from + count ≤ entries ⌝ }
-    ensures { λ r. ⌜ ((k : ℕ) → k < count → getD r k 0 ≡ getD w (from + k) 0) ⌝ }
+// The entries of one block, from its first one on.
+fn block_from(w: [u64; ENTRIES], from: usize) -> [u64; BLOCK]
+    requires { ⌜ from + block ≤ entries ⌝ }
+    ensures { λ r. ⌜ ((k : ℕ) → k < block → getD r k 0 ≡ getD w (from + k) 0) ⌝ }
 {
-    let mut copied = [0; LOWER_ENTRIES];
+    let mut copied = [0; BLOCK];
     let mut i = 0;
-    while i < count {
+    while i < BLOCK {
         copied[i] = w[from + i];
         i += 1;
     }
     copied
 }
 
-// The weights at j/16 of the degrees below the highest. The compiler keeps a match in read-only memory, and an array not (docs/DECISIONS.md).
-pub fn lower_weights_at(j: u32) -> [u64; LOWER_ENTRIES]
+// The weights at j/16. The compiler keeps a match in read-only memory, and an array not (docs/DECISIONS.md).
+pub fn weights_at(j: u32) -> [u64; BLOCK]
     requires { ⌜ j ≤ sixteenths ⌝ }
-    ensures { λ r. ⌜ ((n : ℕ) → 1 ≤ n → n < highest → Row n j r (start n)) ⌝ }
+    ensures { λ r. ⌜ BlockOf j r ⌝ }
 {
     let w = weights();
     match j {
-        0 => entries_from(w, 0, LOWER_ENTRIES),
-        1 => entries_from(w, 44, LOWER_ENTRIES),
-        2 => entries_from(w, 88, LOWER_ENTRIES),
-        3 => entries_from(w, 132, LOWER_ENTRIES),
-        4 => entries_from(w, 176, LOWER_ENTRIES),
-        5 => entries_from(w, 220, LOWER_ENTRIES),
-        6 => entries_from(w, 264, LOWER_ENTRIES),
-        7 => entries_from(w, 308, LOWER_ENTRIES),
-        8 => entries_from(w, 352, LOWER_ENTRIES),
-        9 => entries_from(w, 396, LOWER_ENTRIES),
-        10 => entries_from(w, 440, LOWER_ENTRIES),
-        11 => entries_from(w, 484, LOWER_ENTRIES),
-        12 => entries_from(w, 528, LOWER_ENTRIES),
-        13 => entries_from(w, 572, LOWER_ENTRIES),
-        14 => entries_from(w, 616, LOWER_ENTRIES),
-        15 => entries_from(w, 660, LOWER_ENTRIES),
-        _ => entries_from(w, 704, LOWER_ENTRIES),
-    }
-}
-
-// The weights at j/16 of the highest degree, in front of zeros.
-pub fn highest_weights_at(j: u32) -> [u64; LOWER_ENTRIES]
-    requires { ⌜ j ≤ sixteenths ⌝ }
-    ensures { λ r. ⌜ Row highest j r 0 ⌝ }
-{
-    let w = weights();
-    match j {
-        0 => entries_from(w, 35, HIGHEST_ENTRIES),
-        1 => entries_from(w, 79, HIGHEST_ENTRIES),
-        2 => entries_from(w, 123, HIGHEST_ENTRIES),
-        3 => entries_from(w, 167, HIGHEST_ENTRIES),
-        4 => entries_from(w, 211, HIGHEST_ENTRIES),
-        5 => entries_from(w, 255, HIGHEST_ENTRIES),
-        6 => entries_from(w, 299, HIGHEST_ENTRIES),
-        7 => entries_from(w, 343, HIGHEST_ENTRIES),
-        8 => entries_from(w, 387, HIGHEST_ENTRIES),
-        9 => entries_from(w, 431, HIGHEST_ENTRIES),
-        10 => entries_from(w, 475, HIGHEST_ENTRIES),
-        11 => entries_from(w, 519, HIGHEST_ENTRIES),
-        12 => entries_from(w, 563, HIGHEST_ENTRIES),
-        13 => entries_from(w, 607, HIGHEST_ENTRIES),
-        14 => entries_from(w, 651, HIGHEST_ENTRIES),
-        15 => entries_from(w, 695, HIGHEST_ENTRIES),
-        _ => entries_from(w, 739, HIGHEST_ENTRIES),
+        0 => block_from(w, 0),
+        1 => block_from(w, 44),
+        2 => block_from(w, 88),
+        3 => block_from(w, 132),
+        4 => block_from(w, 176),
+        5 => block_from(w, 220),
+        6 => block_from(w, 264),
+        7 => block_from(w, 308),
+        8 => block_from(w, 352),
+        9 => block_from(w, 396),
+        10 => block_from(w, 440),
+        11 => block_from(w, 484),
+        12 => block_from(w, 528),
+        13 => block_from(w, 572),
+        14 => block_from(w, 616),
+        15 => block_from(w, 660),
+        _ => block_from(w, 704),
     }
 }

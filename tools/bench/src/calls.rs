@@ -15,9 +15,10 @@ pub struct Input {
     pub den: u32,
 }
 
-/// What both sides are given to evaluate at a sixteenth: a curve of the highest degree and j.
+/// What both sides are given to evaluate at a sixteenth: a curve and j.
 pub struct AtSixteenth {
-    pub sides: [i32; CURVE_SIDES],
+    pub degree: u32,
+    pub sides: Vec<i32>,
     pub j: u32,
 }
 
@@ -64,13 +65,11 @@ pub struct Call<I> {
 
 /// An operation by both sides.
 pub struct Operation<I> {
-    pub name: &'static str,
     pub ours: Call<I>,
     pub plain: Call<I>,
 }
 
 pub const EVALUATE: Operation<Input> = Operation {
-    name: "evaluate",
     ours: Call {
         run: |Input { sides, num, den }, out| {
             let (load, ohms, exact) = (&mut out.load, &mut out.ohms, &mut out.flag);
@@ -87,22 +86,21 @@ pub const EVALUATE: Operation<Input> = Operation {
 };
 
 pub const SIXTEENTHS: Operation<AtSixteenth> = Operation {
-    name: "sixteenths",
     ours: Call {
-        run: |AtSixteenth { sides, j }, out| {
+        run: |AtSixteenth { degree, sides, j }, out| {
             let (load, ohms, exact) = (&mut out.load, &mut out.ohms, &mut out.flag);
-            raw::evaluate_sixteenths(MAX_DEGREE, sides, *j, load, ohms, exact)
+            raw::evaluate_sixteenths(*degree, sides, *j, load, ohms, exact)
         },
         result: |out| (with_ohms(&out.load, &out.ohms), out.flag),
     },
     plain: Call {
-        run: |AtSixteenth { sides, j }, out| {
+        run: |AtSixteenth { degree, sides, j }, out| {
             let (load, ohms, exact) = (
                 &mut out.plain[..RECT_LENGTH],
                 &mut out.plain_ohms,
                 &mut out.plain_flag,
             );
-            plain_sixteenths::evaluate_sixteenths(MAX_DEGREE, sides, *j, load, ohms, exact)
+            plain_sixteenths::evaluate_sixteenths(*degree, sides, *j, load, ohms, exact)
         },
         result: |out| {
             let load = &out.plain[..RECT_LENGTH];
@@ -118,7 +116,6 @@ fn with_ohms(load: &[i32], ohms: &[f32]) -> Vec<i32> {
 }
 
 pub const SUBDIVIDE: Operation<Input> = Operation {
-    name: "subdivide",
     ours: Call {
         run: |Input { sides, num, den }, out| {
             let (left, right, exact) = (&mut out.left, &mut out.right, &mut out.flag);
@@ -136,7 +133,6 @@ pub const SUBDIVIDE: Operation<Input> = Operation {
 
 pub const fn enclose<const NUMBERS: usize>() -> Operation<Measured<NUMBERS>> {
     Operation {
-        name: "enclose",
         ours: Call {
             run: |ohms, out| raw::enclose(ohms, &mut out.load, &mut out.flag),
             result: |out| (out.load.to_vec(), out.flag),

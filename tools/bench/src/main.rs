@@ -55,17 +55,21 @@ fn curves() -> Result<(), String> {
         "degree {MAX_DEGREE}, {INPUTS} inputs, {ROUNDS} rounds of {TIMES} times all inputs; the results' \
          buffers are used again and not cleared"
     );
-    side_by_side(&EVALUATE, &inputs, TIMES)?;
-    side_by_side(&SUBDIVIDE, &inputs, TIMES)
+    side_by_side("evaluate", &EVALUATE, &inputs, TIMES)?;
+    side_by_side("subdivide", &SUBDIVIDE, &inputs, TIMES)
 }
 
 fn sixteenths() -> Result<(), String> {
-    let inputs = at_sixteenths(&mut Rng::new(SEED));
     println!(
-        "degree {MAX_DEGREE}, {SIXTEENTH_CURVES} curves at each of the {SIXTEENTH_PLACES} places j/16, \
-         {ROUNDS} rounds of {TIMES} times all of them"
+        "{SIXTEENTH_CURVES} curves of each degree at each of the {SIXTEENTH_PLACES} places j/16, {ROUNDS} \
+         rounds of {TIMES} times all of a degree"
     );
-    side_by_side(&SIXTEENTHS, &inputs, TIMES)
+    for degree in (1..=MAX_DEGREE).rev() {
+        let inputs = at_sixteenths(&mut Rng::new(SEED), degree);
+        let name = format!("sixteenths, degree {degree}");
+        side_by_side(&name, &SIXTEENTHS, &inputs, TIMES)?;
+    }
+    Ok(())
 }
 
 fn measurements() -> Result<(), String> {
@@ -74,9 +78,14 @@ fn measurements() -> Result<(), String> {
     let plain: Vec<_> = spread.iter().map(|[r, x, _]| [*r, *x]).collect();
     let rounds = format!("{ROUNDS} rounds of {MEASURED_TIMES} times all loads");
     println!("{MEASURED} measured loads with a spread, {rounds}");
-    side_by_side(&enclose::<WITH_SPREAD>(), &spread, MEASURED_TIMES)?;
+    side_by_side(
+        "enclose",
+        &enclose::<WITH_SPREAD>(),
+        &spread,
+        MEASURED_TIMES,
+    )?;
     println!("{MEASURED} plain measured loads, {rounds}");
-    side_by_side(&enclose::<PLAIN_LOAD>(), &plain, MEASURED_TIMES)
+    side_by_side("enclose", &enclose::<PLAIN_LOAD>(), &plain, MEASURED_TIMES)
 }
 
 /// An accepted curve and an accepted parameter.
@@ -91,10 +100,11 @@ fn input(rng: &mut Rng) -> Input {
 }
 
 /// Accepted curves, each at the next place, so that all places come equally often.
-fn at_sixteenths(rng: &mut Rng) -> Vec<AtSixteenth> {
+fn at_sixteenths(rng: &mut Rng, degree: u32) -> Vec<AtSixteenth> {
     let places = (0..SIXTEENTH_PLACES as u32).cycle();
     let drawn = places.map(|j| AtSixteenth {
-        sides: input(rng).sides,
+        degree,
+        sides: Given::exact(&curve(rng, degree as usize)).sides().to_vec(),
         j,
     });
     drawn.take(SIXTEENTH_PLACES * SIXTEENTH_CURVES).collect()
@@ -110,7 +120,7 @@ fn with_spread(rng: &mut Rng) -> Measured<WITH_SPREAD> {
 
 /// Whether both sides accept every input and give the same sides and the same flag.
 fn agree<I>(operation: &Operation<I>, inputs: &[I]) -> bool {
-    let Operation { ours, plain, .. } = operation;
+    let Operation { ours, plain } = operation;
     inputs.iter().all(|input| {
         let mut buffers = Buffers::EMPTY;
         let answers = [ours, plain].map(|call| (call.run)(input, &mut buffers));
@@ -119,11 +129,16 @@ fn agree<I>(operation: &Operation<I>, inputs: &[I]) -> bool {
 }
 
 /// Times one operation on both sides, each going first in every other round.
-fn side_by_side<I>(operation: &Operation<I>, inputs: &[I], times: usize) -> Result<(), String> {
-    let Operation { name, ours, plain } = operation;
+fn side_by_side<I>(
+    name: &str,
+    operation: &Operation<I>,
+    inputs: &[I],
+    times: usize,
+) -> Result<(), String> {
     if !agree(operation, inputs) {
         return Err(format!("{name}: the results differ"));
     }
+    let Operation { ours, plain } = operation;
     let (mut plain_times, mut our_times, mut ratios) = (Vec::new(), Vec::new(), Vec::new());
     for round in 0..ROUNDS {
         let (plain_time, our_time) = if round % 2 == 0 {
@@ -141,7 +156,7 @@ fn side_by_side<I>(operation: &Operation<I>, inputs: &[I], times: usize) -> Resu
         [plain_times, our_times, ratios].map(quartiles);
     let [plain, ours] = [plain, ours].map(shown);
     println!(
-        "{name:<10} plain {plain:>5} ns, ours {ours:>5} ns, ours/plain {ratio:.2} ({low:.2} to {high:.2})"
+        "{name:<20} plain {plain:>5} ns, ours {ours:>5} ns, ours/plain {ratio:.2} ({low:.2} to {high:.2})"
     );
     Ok(())
 }
@@ -185,7 +200,9 @@ mod tests {
             den: 2,
         });
         assert!(agree(&EVALUATE, &inputs) && agree(&SUBDIVIDE, &inputs));
-        assert!(agree(&SIXTEENTHS, &at_sixteenths(&mut rng)));
+        for degree in 1..=MAX_DEGREE {
+            assert!(agree(&SIXTEENTHS, &at_sixteenths(&mut rng, degree)));
+        }
         let spread: Vec<_> = (0..MEASURED).map(|_| with_spread(&mut rng)).collect();
         let plain: Vec<_> = spread.iter().map(|[r, x, _]| [*r, *x]).collect();
         assert!(agree(&enclose::<WITH_SPREAD>(), &spread));

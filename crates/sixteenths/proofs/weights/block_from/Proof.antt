@@ -1,18 +1,19 @@
--- `entries_from` meets its contract. The invariant: the first i entries are copied. The measure is what is left of them.
+-- `block_from` meets its contract. The invariant: the first i entries are copied. The measure is what is left of them.
 -- Assumes nothing.
 use mathlib.Core.Path.{_≡_, refl, _∙_}
 use Prim.Native.Nat.{ℕ, _+_, _-_, _≤_, _<_}
 use native.Mathlib.Omega.{arith}
 use lib.ListN.{getD, length, length-set}
-use Rattle.sixteenths.proofs.Rows.{stored-next}
-use Rattle.sixteenths.proofs.weights.entries_from.Statement.{statement}
-use Rattle.sixteenths.proofs.weights.entries_from.Tie as tie
+use Rattle.sixteenths.specs.Weights.{block}
+use Rattle.sixteenths.proofs.Blocks.{stored-next}
+use Rattle.sixteenths.proofs.weights.block_from.Statement.{statement}
+use Rattle.sixteenths.proofs.weights.block_from.Tie as tie
 
 abbrev Inv-loop : tie.InvT-loop
-Inv-loop from count w copied₀ i₀ copied i = (i ≤ count) × (length copied ≡ 35) × ((k : ℕ) → k < i → getD copied k 0 ≡ getD w (from + k) 0)
+Inv-loop from w copied₀ i₀ copied i = (i ≤ block) × (length copied ≡ block) × ((k : ℕ) → k < i → getD copied k 0 ≡ getD w (from + k) 0)
 
 abbrev μ-loop : tie.MeasureT-loop
-μ-loop from count w copied₀ i₀ copied i = count - i
+μ-loop from w copied₀ i₀ copied i = block - i
 
 loop-holds : tie.Need-loop-holds Inv-loop μ-loop
 loop-holds c = (omega arith, refl, λ k h. absurd (omega arith))
@@ -48,8 +49,8 @@ loop-again c =
 returns : tie.Need-returns Inv-loop μ-loop
 returns c = λ k h. c .before .loop .inv .2 k (omega arith)
 
-pub entries-from-spec : {M : Type 1} → statement M
-entries-from-spec =
+pub block-from-spec : {M : Type 1} → statement M
+block-from-spec =
     tie.close
     (tie.spec
     Inv-loop
