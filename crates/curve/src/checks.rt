@@ -56,7 +56,6 @@ pub fn ends_in_range(i: Interval) -> bool
     in_range(i.low) && in_range(i.high)
 }
 
-// Whether all four sides are in range.
 pub fn sides_in_range(p: Rect) -> bool
     ensures { λ r. ⌜ r ≡ sidesInRange p ⌝ }
 {
@@ -69,8 +68,7 @@ fn ends_ordered(i: Interval) -> bool
     i.low <= i.high
 }
 
-// Whether in both coordinates low is at most high.
-pub fn sides_ordered(p: Rect) -> bool
+fn sides_ordered(p: Rect) -> bool
     ensures { λ r. ⌜ r ≡ sidesOrdered p ⌝ }
 {
     ends_ordered(p.resistance) && ends_ordered(p.reactance)

@@ -27,10 +27,8 @@ pub use checks::first_of;
 pub use checks::is_from_one_to;
 pub use checks::refused_unless;
 
-// The checks of an interval and of a rectangle by themselves: all sides are in range, and each low is at most its high.
+// The check of an interval by itself: both ends are in range.
 pub use checks::ends_in_range;
-pub use checks::sides_in_range;
-pub use checks::sides_ordered;
 
 // A rectangle in ohms.
 pub use display::checked_ohms;

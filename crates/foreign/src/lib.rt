@@ -42,12 +42,18 @@ use results::put_ohms;
 use results::put_rect;
 use results::put_verdict;
 
-// Gives a reading's load, its ohms and its flag, and answers its refusal or 12.
+// Gives a reading's load, its ohms and its flag, and answers its refusal or 12. It returns at the first refusal, so that an accepted call works out no place.
 fn give_evaluation(answer: Evaluation, load: &mut [i32], ohms: &mut [f32], exact: &mut u32) -> u64
     ensures { λ r. ⌜ GivesEvaluation answer (now (load .entry)) (now (ohms .entry)) (now (exact .entry)) r (now (load .exit)) (now (ohms .exit)) (now (exact .exit)) ⌝ }
 {
     let first = with_room(answer.refusal, RECT_LENGTH, load.len());
+    if first.number != 0 {
+        return answer_of(first);
+    }
     let refusal = with_room(first, RECT_LENGTH, ohms.len());
+    if refusal.number != 0 {
+        return answer_of(refusal);
+    }
     put_rect(load, refusal, answer.load);
     put_ohms(ohms, refusal, answer.ohms);
     put_exact(exact, refusal, answer.exact);

@@ -1,22 +1,35 @@
--- `is_good` meets its contract, by its two tests.
+-- `is_good` meets its contract, by the two coordinates.
 -- Assumes nothing.
 use mathlib.Core.Path.{sym, _∙_}
+use mathlib.Core.Bool.{_&&_}
 use borrow.Author.Needs.{needs}
+use Rattle.curve.specs.Rect.{endsInRange, sidesInRange, endsOrdered, sidesOrdered}
 use Rattle.curve.proofs.Machine.{and-yes, and-no}
+use Rattle.sixteenths.proofs.Tests.{by-coordinate}
 use Rattle.sixteenths.proofs.sums.is_good.Statement.{statement}
 use Rattle.sixteenths.proofs.sums.is_good.Tie as tie
 
-sides-in-range-requires : tie.Need-sides-in-range-requires
-sides-in-range-requires c κs = search needs
+is-good-interval-requires : tie.Need-is-good-interval-requires
+is-good-interval-requires c κs = search needs
 
-sides-ordered-requires : tie.Need-sides-ordered-requires
-sides-ordered-requires c κs = search needs
+is-good-interval-requires-2 : tie.Need-is-good-interval-requires-2
+is-good-interval-requires-2 c κs = search needs
 
 returns : tie.Need-returns
-returns c = c .sides-ordered .ensures ∙ and-yes (sym (c .before .before .sides-in-range .ensures) ∙ c .before .if1 .taken)
+unfolding sidesInRange sidesOrdered
+returns c =
+    let p = c .before .before .before .args .p in
+    c .is-good-interval2 .ensures
+    ∙ and-yes (sym (c .before .before .is-good-interval .ensures) ∙ c .before .if1 .taken)
+    ∙ by-coordinate (endsInRange (p .resistance)) (endsInRange (p .reactance)) (endsOrdered (p .resistance)) (endsOrdered (p .reactance))
 
 returns-2 : tie.Need-returns-2
-returns-2 c = let first = c .before .sides-in-range .ensures in first ∙ and-no _ _ (sym first ∙ c .if1 .left)
+unfolding sidesInRange sidesOrdered
+returns-2 c =
+    let p = c .before .before .args .p in
+    let first = c .before .is-good-interval .ensures in
+    first ∙ and-no _ (endsInRange (p .reactance) && endsOrdered (p .reactance)) (sym first ∙ c .if1 .left)
+    ∙ by-coordinate (endsInRange (p .resistance)) (endsInRange (p .reactance)) (endsOrdered (p .resistance)) (endsOrdered (p .reactance))
 
 pub is-good-spec : {M : Type 1} → statement M
-is-good-spec = tie.close (tie.spec sides-in-range-requires sides-ordered-requires returns returns-2)
+is-good-spec = tie.close (tie.spec is-good-interval-requires is-good-interval-requires-2 returns returns-2)
