@@ -5,8 +5,8 @@ use native.Mathlib.Numerals.{add-one}
 use native.Mathlib.Decide.{decLt}
 use native.Mathlib.Omega.{arith}
 use mathlib.Core.Bool.{Bool, true, _&&_}
-use mathlib.Core.Path.{_≡_, refl, sym, ap, ap₂, _∙_, subst}
-use Rattle.rational.proofs.Truth.{and-both, both-and, and-assoc, and-true}
+use mathlib.Core.Path.{_≡_, refl, ap, ap₂, subst}
+use Rattle.rational.proofs.Truth.{and-both, both-and}
 use Rattle.bernstein.specs.DeCasteljau.{allBelow, table, everyMap}
 use Rattle.bernstein.proofs.Table.{table-agree}
 
@@ -61,32 +61,3 @@ module _ {A : Type 0} (map : A → A → A) (test : A → A → Bool) where
       all-agree n (λ i. allBelow (n - i) (mapTest P i)) (λ i. allBelow (n - i) (mapTest Q i))
       (λ j l. all-agree (n - j) (mapTest P j) (mapTest Q j)
       (λ k g. ap₂ test (table-agree map n same j k (omega arith)) (table-agree map n same j (suc k) (omega arith))))
-
-  -- the same as far as it has come: all of the first j stages' maps, and the first k of the next stage's
-  module _ (P : ℕ → A) (n : ℕ) where
-    abbrev stageTest : ℕ → Bool
-    stageTest j = allBelow (n - j) (mapTest P j)
-
-    unfoldable pub everySoFar : ℕ → ℕ → Bool
-    everySoFar j k = allBelow j stageTest && allBelow k (mapTest P j)
-
-    pub so-far-start : everySoFar 0 0 ≡ true
-    unfolding everySoFar allBelow
-    so-far-start = refl
-
-    pub so-far-next : (j k : ℕ) → (everySoFar j k && mapTest P j k) ≡ everySoFar j (k + 1)
-    unfolding everySoFar
-    so-far-next j k =
-        and-assoc (allBelow j stageTest) (allBelow k (mapTest P j)) (mapTest P j k)
-        ∙ ap (λ (b : Bool). allBelow j stageTest && b) (sym (all-next k (mapTest P j)))
-
-    pub so-far-stage : (j : ℕ) → everySoFar j (n - j) ≡ everySoFar (j + 1) 0
-    unfolding everySoFar
-    so-far-stage j =
-        sym (all-next j stageTest)
-        ∙ sym (and-true (allBelow (j + 1) stageTest))
-        ∙ ap (λ (b : Bool). allBelow (j + 1) stageTest && b) (sym (all-zero (mapTest P (j + 1))))
-
-    pub so-far-end : everySoFar n 0 ≡ everyMap map P test n
-    unfolding everySoFar everyMap
-    so-far-end = ap (λ (b : Bool). allBelow n stageTest && b) (all-zero (mapTest P n)) ∙ and-true (allBelow n stageTest)

@@ -1,13 +1,15 @@
 -- What it means that a curve, a parameter and a call are not refused: number 0 says it, the facts about degree and sides say it, and the answers are then the results.
 -- Assumes nothing.
-use mathlib.Core.Path.{_≡_, ap, _∙_}
-use mathlib.Core.Bool.{_&&_}
+use mathlib.Core.Path.{_≡_, sym, ap, _∙_, subst}
+use mathlib.Core.Bool.{Bool, true, false, _&&_}
 use Prim.Native.Nat.{ℕ, _+_, _-_, _≤_, _<_}
 use native.Mathlib.Omega.{arith}
-use lib.Dec.{T, leb, ltb, leb→le, le→leb, ltb→lt, lt→ltb}
+use borrow.Author.Tests.{leb-true, le-leb, eqb-false, ne-eqb}
+use lib.Dec.{T, eqb, leb, ltb, leb→le, le→leb, ltb→lt, lt→ltb}
 use lib.IntN.{ℤ, pos, negℤ}
 use lib.Signed.{leZ, leZ-yes, _≤ℤ_}
 use Rattle.rational.specs.Rounding.{Rounding, down, up}
+use Rattle.rational.proofs.Truth.{and-both, both-and}
 use Rattle.curve.specs.declared.Interval.{Interval}
 use Rattle.curve.specs.declared.Rect.{Rect}
 use Rattle.curve.specs.declared.Curve.{Curve}
@@ -18,7 +20,7 @@ use Rattle.curve.specs.Curve.{point}
 use Rattle.curve.specs.Refusals.{none, _orElse_, unless, rangeRefusal, orderRefusal, curveRefusal, parameterRefusal, highestRefusal, degreeRefusal, Accepted, AcceptedAt}
 use Rattle.curve.specs.Inner.{Side, Held, Factors, Ready}
 use Rattle.curve.specs.Calls.{callRefusal, elevationRefusal}
-use Rattle.curve.proofs.Tests.{both, join, or-split, or-none, unless-holds, unless-none, first-holds, first-none, between-holds, between-none}
+use Rattle.curve.proofs.Tests.{true-of, both, join, or-split, or-none, unless-holds, unless-none, first-holds, first-none, between-holds, between-none}
 
 -- ---- sides
 
@@ -40,7 +42,7 @@ unfolding endsInRange
 sides-ends i h = join (inRange (i .low)) (inRange (i .high)) (side-range (i .low) (h down)) (side-range (i .high) (h up))
 
 -- a rectangle's range, side by side
-pub range-sides : (p : Rect) → T (sidesInRange p) → (x : Coordinate) (r : Rounding) → Side (side x r p)
+range-sides : (p : Rect) → T (sidesInRange p) → (x : Coordinate) (r : Rounding) → Side (side x r p)
 unfolding sidesInRange
 range-sides p t resistance = ends-sides (p .resistance) (both (endsInRange (p .resistance)) (endsInRange (p .reactance)) t .0)
 range-sides p t reactance = ends-sides (p .reactance) (both (endsInRange (p .resistance)) (endsInRange (p .reactance)) t .1)
@@ -53,7 +55,7 @@ pub range-held : (p : Rect) → T (sidesInRange p) → Held p
 range-held p t = record { at = λ x. record { at = λ r. range-sides p t x r } }
 
 -- a rectangle's order, coordinate by coordinate
-pub order-sides : (p : Rect) → T (sidesOrdered p) → (x : Coordinate) → side x down p ≤ℤ side x up p
+order-sides : (p : Rect) → T (sidesOrdered p) → (x : Coordinate) → side x down p ≤ℤ side x up p
 unfolding sidesOrdered endsOrdered
 order-sides p t resistance = leZ-yes (both (endsOrdered (p .resistance)) (endsOrdered (p .reactance)) t .0)
 order-sides p t reactance = leZ-yes (both (endsOrdered (p .resistance)) (endsOrdered (p .reactance)) t .1)
@@ -90,6 +92,33 @@ facts-accepted {c} f =
     or-none (degreeRefusal (c .degree)) _ (between-none (c .degree) maxDegree 1 (f .some) (f .few))
     ∙ or-none (rangeRefusal c) _ (first-none (λ k. sidesInRange (point c k)) 2 (c .degree + 1) 0 (λ k low high. sides-range (point c k) (f .inRange k (omega arith))))
     ∙ first-none (λ k. sidesOrdered (point c k)) 3 (c .degree + 1) 0 (λ k low high. sides-order (point c k) (f .ordered k (omega arith)))
+
+-- what the tests of the degree and of each rectangle tell
+abbrev pub goodAt : Curve → ℕ → Bool
+goodAt c k = sidesInRange (point c k) && sidesOrdered (point c k)
+
+pub tests-facts : (c : Curve) → (leb 1 (c .degree) && leb (c .degree) maxDegree) ≡ true → ((k : ℕ) → k ≤ c .degree → goodAt c k ≡ true) → Facts c
+tests-facts c degree good =
+    let (some, few) = and-both (leb 1 (c .degree)) (leb (c .degree) maxDegree) degree in
+    record {
+      some = leb-true 1 (c .degree) some;
+      few = leb-true (c .degree) maxDegree few;
+      inRange = λ k l. range-sides (point c k) (subst T (sym (and-both (sidesInRange (point c k)) (sidesOrdered (point c k)) (good k l) .0)) tt);
+      ordered = λ k l. order-sides (point c k) (subst T (sym (and-both (sidesInRange (point c k)) (sidesOrdered (point c k)) (good k l) .1)) tt);
+    }
+
+pub facts-degree : {c : Curve} → Facts c → (leb 1 (c .degree) && leb (c .degree) maxDegree) ≡ true
+facts-degree {c} f = both-and (le-leb 1 (c .degree) (f .some)) (le-leb (c .degree) maxDegree (f .few))
+
+pub facts-good : {c : Curve} → Facts c → (k : ℕ) → k ≤ c .degree → goodAt c k ≡ true
+facts-good {c} f k l =
+    both-and
+    (true-of (sidesInRange (point c k)) (sides-range (point c k) (f .inRange k l)))
+    (true-of (sidesOrdered (point c k)) (sides-order (point c k) (f .ordered k l)))
+
+-- a test that every accepted curve passes refuses those that do not
+pub refused-unless : (c : Curve) (b : Bool) → (Facts c → b ≡ true) → b ≡ false → eqb (curveRefusal c .number) 0 ≡ false
+refused-unless c b passes fails = ne-eqb (curveRefusal c .number) 0 (λ h. subst T (sym (passes (number-facts c h)) ∙ fails) tt)
 
 -- number 0 is enough
 pub number-accepted : (c : Curve) → curveRefusal c .number ≡ 0 → Accepted c
@@ -142,6 +171,13 @@ call-accepted c num den h =
 pub call-parameter : (c : Curve) (num den : ℕ) → Accepted c → callRefusal c num den ≡ parameterRefusal num den
 unfolding callRefusal
 call-parameter c num den a = or-none (curveRefusal c) (parameterRefusal num den) a
+
+-- a call is refused where its curve is, and where its parameter is
+pub call-refused : (c : Curve) (num den : ℕ) → eqb (curveRefusal c .number) 0 ≡ false → eqb (callRefusal c num den .number) 0 ≡ false
+call-refused c num den h = ne-eqb (callRefusal c num den .number) 0 (λ e. eqb-false (curveRefusal c .number) 0 h (ap (λ (r : Refusal). r .number) (call-accepted c num den e .0)))
+
+pub call-refused-at : (c : Curve) (num den : ℕ) → eqb (parameterRefusal num den .number) 0 ≡ false → eqb (callRefusal c num den .number) 0 ≡ false
+call-refused-at c num den h = ne-eqb (callRefusal c num den .number) 0 (λ e. eqb-false (parameterRefusal num den .number) 0 h (ap (λ (r : Refusal). r .number) (call-accepted c num den e .1)))
 
 pub accepted-call : (c : Curve) (num den : ℕ) → Accepted c → AcceptedAt num den → callRefusal c num den ≡ none
 accepted-call c num den a b = call-parameter c num den a ∙ b

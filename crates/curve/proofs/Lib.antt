@@ -6,8 +6,9 @@ pub mod Weighing
 pub mod Refused
 pub mod Places
 pub mod Stages
-pub mod MadeTable
+pub mod Placed
 pub mod Tests
+pub mod GoodSides
 pub mod Accepted
 pub mod Answers
 pub mod Points

@@ -1,6 +1,6 @@
 -- What a map's weights give: the estimate of its quotient is off by less than 1, its numbers fit their types, and counted from the lifted start the quotient reaches the map.
 -- Assumes nothing.
-use mathlib.Core.Path.{_≡_, refl, sym, ap, ap₂, _∙_, subst₂}
+use mathlib.Core.Path.{_≡_, refl, sym, ap, ap₂, _∙_, subst, subst₂}
 use Prim.Native.Nat.{ℕ, _+_, _*_, _-_, _/_, _^_, _≤_, _<_}
 use native.Mathlib.Nat.{mul-le-mul, mul-le-mul-left, mul-le-mul-right, le-of-mul-le-mul-right, lt-of-mul-lt-mul-right, div-mul-le-self, lt-div-mul-add}
 use native.Mathlib.Omega.{arith}
@@ -11,7 +11,7 @@ use mir.Val.{SFits}
 use Rattle.rational.specs.Rounding.{Rounding, quotient, divisible}
 use Rattle.rational.proofs.Whole.{integer-ring, add-left-comm, add-right-cancel}
 use Rattle.rational.proofs.Order.{≤ℤ-trans, ≤ℤ-reflexive, negℤ-anti, +ℤ-mono, pos-mono, pos-reflects, natural}
-use Rattle.rational.proofs.Quotient.{quotient-shift, quotient-least}
+use Rattle.rational.proofs.Quotient.{quotient-shift}
 use Rattle.rational.proofs.Divisible.{divisible-shift}
 use Rattle.bernstein.specs.Affine.{affine, affineExact}
 use Rattle.curve.specs.declared.Rect.{Rect}
@@ -21,26 +21,30 @@ use Rattle.curve.specs.Limits.{maxDen}
 use Rattle.curve.specs.Rect.{affineRect, exactRect}
 use Rattle.curve.specs.Inner.{Side, Part, Weighed, scale, turnsOf}
 use Rattle.curve.proofs.Sides.{within-fits}
-use Rattle.curve.proofs.Estimate.{estimate-low, estimate-high}
+use Rattle.curve.proofs.Estimate.{Step, division-free}
 
 -- ---- the estimate
+
+-- a part is hardly larger than the scale
+most-part : (t d p : ℕ) → 0 < d → t ≤ d → Part t d p → p ≤ scale + 8
+most-part t d p positive most part =
+    let factor : t * scale ≤ d * scale = mul-le-mul-right scale most in
+    let above = part .most in
+    let both : p * d ≤ (scale + 8) * d = omega arith in
+    le-of-mul-le-mul-right both positive
 
 module _ (by : ℕ) (w : Weights) (far : by ≤ 33554432 + w .lift) (h : Weighed w) where
   abbrev pub near : ℕ
   near = by * w .part / scale
 
-  part-small : w .part ≤ scale + 1023
-  part-small =
-      let factor : w .t * scale ≤ w .den * scale = mul-le-mul {n₁ = w .t} {m₁ = scale} {n₂ = w .den} (h .factor .most) (omega arith) in
-      let most = h .part .most in
-      let both : w .part * w .den ≤ (scale + 1023) * w .den = omega arith in
-      le-of-mul-le-mul-right both (h .factor .positive)
+  part-small : w .part ≤ scale + 8
+  part-small = most-part (w .t) (w .den) (w .part) (h .factor .positive) (h .factor .most) (h .part)
 
   by-small : by ≤ 67174399
   by-small = let low = h .low in omega arith
 
   -- the two products fit 64 bits
-  pub part-product : by * w .part ≤ 67174399 * (scale + 1023)
+  pub part-product : by * w .part ≤ 67174399 * (scale + 8)
   part-product = mul-le-mul {n₁ = by} {m₁ = w .part} {n₂ = 67174399} by-small part-small
 
   pub factor-product : by * w .t ≤ 67174399 * maxDen
@@ -49,17 +53,15 @@ module _ (by : ℕ) (w : Weights) (far : by ≤ 33554432 + w .lift) (h : Weighed
       let most = h .factor .most in
       mul-le-mul {n₁ = by} {m₁ = w .t} {n₂ = 67174399} {m₂ = maxDen} by-small (omega arith)
 
-  pub near-low : by * w .t < near * w .den + w .den
-  near-low = estimate-low scale (w .den) (w .t) (w .part) 1023 by (omega arith) (h .factor .positive) (h .part .least) (h .part .most) (let s = by-small in omega arith)
-
-  pub near-high : near * w .den < by * w .t + w .den
-  near-high = estimate-high scale (w .den) (w .t) (w .part) 1023 by (omega arith) (h .factor .positive) (h .part .least) (h .part .most) (let s = by-small in omega arith)
+  -- the estimate is off by less than 1
+  pub nearby : Step (by * w .t) (w .den) near
+  nearby = division-free scale (w .den) (w .t) (w .part) 8 by (omega arith) (h .factor .positive) (h .part .least) (h .part .most) (let s = by-small in omega arith)
 
   -- the estimate is at most the distance
   pub near-small : near ≤ 67174399
   near-small =
       let most : by * w .t ≤ by * w .den = mul-le-mul-left by (h .factor .most) in
-      let high = near-high in
+      let high = nearby .high in
       let less : near * w .den < (by + 1) * w .den = omega arith in
       let s = by-small in
       let l : near < by + 1 = lt-of-mul-lt-mul-right (w .den) less in
@@ -143,11 +145,6 @@ module _ {a b : ℤ} (w : Weights) (h : Weighed w) (d : Distance a b (w .lift)) 
   unfolding affineExact
   left-none = sym (ap (λ (x : ℤ). divisible x (w .den)) counted ∙ divisible-shift (w .den) (pos (d .by * w .t)) (a -ℤ pos (w .back)))
 
--- the quotient is at most the distance
-pub steps-small : (by steps : ℕ) (w : Weights) (r : Rounding) → Weighed w → pos steps ≡ quotient r (pos (by * w .t)) (w .den) → steps ≤ by
-steps-small by steps w r h is =
-    pos-reflects (≤ℤ-trans (≤ℤ-reflexive is) (quotient-least (w .den) (h .factor .positive) r (pos by) (pos (by * w .t)) (pos-mono (mul-le-mul-left by (h .factor .most)))))
-
 -- ---- the start
 
 pub back-most : (w : Weights) → Weighed w → w .back ≤ w .lift
@@ -188,20 +185,30 @@ part-at t d positive =
     let high = lt-div-mul-add {a = t * scale + d - 1} positive in
     record { least = omega arith; most = omega arith }
 
-pub part-times : (t d : ℕ) → 0 < d → t ≤ 1023 → Part t d (t * ((scale + d - 1) / d))
+pub part-times : (t d : ℕ) → 0 < d → t ≤ 8 → Part t d (t * ((scale + d - 1) / d))
 part-times t d positive few =
     let u : ℕ = (scale + d - 1) / d in
     let low = div-mul-le-self (scale + d - 1) d in
     let high = lt-div-mul-add {a = scale + d - 1} positive in
     let least : t * scale ≤ t * (u * d) = mul-le-mul-left t (omega arith) in
     let most : t * (u * d) ≤ t * (scale + d) = mul-le-mul-left t (omega arith) in
-    let excess : t * d ≤ 1023 * d = mul-le-mul-right d few in
+    let excess : t * d ≤ 8 * d = mul-le-mul-right d few in
     record { least = omega arith; most = omega arith }
 
-pub part-fits : (t d : ℕ) → 0 < d → d ≤ 1023 → t ≤ 1023 → t * ((scale + d - 1) / d) < 2 ^ 64
-part-fits t d positive small few =
+-- parts fit 32 bits
+pub quotient-fits : (x d : ℕ) → 0 < d → x < 4294967296 * d → x / d < 2 ^ 32
+quotient-fits x d positive less = let low = div-mul-le-self x d in lt-of-mul-lt-mul-right d (omega arith)
+
+pub part-fits : (t d : ℕ) → 0 < d → d ≤ maxDen → t ≤ d → t * ((scale + d - 1) / d) < 2 ^ 32
+part-fits t d positive small most =
     let u : ℕ = (scale + d - 1) / d in
     let low = div-mul-le-self (scale + d - 1) d in
-    let once : u * 1 ≤ u * d = mul-le-mul-left u positive in
-    let product : t * u ≤ 1023 * (scale + 1022) = mul-le-mul {n₁ = t} {m₁ = u} {n₂ = 1023} {m₂ = scale + 1022} few (omega arith) in
+    let less : t * u ≤ d * u = mul-le-mul-right u most in
     omega arith
+
+-- what is known of a divisor is known of the sum of its factors
+pub part-total : (s t d part : ℕ) → d ≡ s + t → Part t d part → Part t (s + t) part
+part-total s t d part total p = subst (λ (x : ℕ). Part t x part) total p
+
+pub turns-total : (s t d turns : ℕ) → d ≡ s + t → turns ≡ turnsOf d → turns ≡ turnsOf (s + t)
+turns-total s t d turns total e = e ∙ ap turnsOf total

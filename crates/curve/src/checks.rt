@@ -74,6 +74,20 @@ fn sides_ordered(p: Rect) -> bool
     ends_ordered(p.resistance) && ends_ordered(p.reactance)
 }
 
+// Whether an interval's ends are in range and in order. Of ends in order one test each tells that both are in range.
+fn is_good_interval(i: Interval) -> bool
+    ensures { λ r. ⌜ r ≡ (endsInRange i && endsOrdered i) ⌝ }
+{
+    MIN_SIDE <= i.low && (i.low <= i.high && i.high <= MAX_SIDE)
+}
+
+// Whether a rectangle's sides are in range and in order.
+pub fn is_good(p: Rect) -> bool
+    ensures { λ r. ⌜ r ≡ (sidesInRange p && sidesOrdered p) ⌝ }
+{
+    is_good_interval(p.resistance) && is_good_interval(p.reactance)
+}
+
 // Whether a number is from 1 to the largest that is allowed.
 pub fn is_from_one_to(x: u32, largest: u32) -> bool
     ensures { λ r. ⌜ r ≡ (leb 1 x && leb x largest) ⌝ }
@@ -135,7 +149,7 @@ pub fn curve_refusal(c: Curve) -> Refusal
 }
 
 // Refusals 4 and 5.
-fn parameter_refusal(num: u32, den: u32) -> Refusal
+pub fn parameter_refusal(num: u32, den: u32) -> Refusal
     ensures { λ r. ⌜ r ≡ parameterRefusal num den ⌝ }
 {
     let refusal = refused_unless(is_from_one_to(den, MAX_DEN), 4, 0);

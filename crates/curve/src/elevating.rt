@@ -26,9 +26,9 @@ pub fn elevated_points(c: Curve) -> Elevated
     ensures { λ r. ⌜ (r .points ≡ pointsOf (c .degree + 1) (elevatedPoint (c .degree) (point c))) × (r .exact ≡ elevationExact c) ⌝ }
 {
     let n = c.degree as usize;
-    let d = (n + 1) as u64;
+    let d = c.degree + 1;
     // The part of the factor 1, of which the others are multiples.
-    let unit = (SCALE + d - 1) / d;
+    let unit = ((SCALE + d as u64 - 1) / d as u64) as u32;
     let turns = turns_of(d);
     let mut points = [zero_rect(); PLACES];
     points[0] = c.points[0];
@@ -38,8 +38,8 @@ pub fn elevated_points(c: Curve) -> Elevated
         let p = c.points[k];
         k += 1;
         let q = c.points[k];
-        let t = (n + 1 - k) as u64;
-        let mapped = affine_rect(p, q, weights_of(t, d, t * unit, turns));
+        let t = (n + 1 - k) as u32;
+        let mapped = affine_rect(p, q, weights_of(k as u32, t, t * unit, turns));
         let rect = mapped.rect;
         points[k] = rect;
         exact = exact & mapped.exact;

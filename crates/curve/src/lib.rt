@@ -16,6 +16,10 @@ use checks::elevation_refusal;
 use display::ohms_of;
 use elevating::elevated_points;
 use hull::hull_of;
+use table::SIDES;
+use table::accepts;
+use table::points_of;
+use table::rect_at;
 use table::table_of;
 
 // The check of a degree by itself, refusal 1, and of a curve by itself, refusals 1 to 3.
@@ -27,8 +31,9 @@ pub use checks::first_of;
 pub use checks::is_from_one_to;
 pub use checks::refused_unless;
 
-// The check of an interval by itself: both ends are in range.
+// The check of an interval by itself: both ends are in range. And of a rectangle by itself: its sides are in range and in order.
 pub use checks::ends_in_range;
+pub use checks::is_good;
 
 // A rectangle in ohms.
 pub use display::checked_ohms;
@@ -53,6 +58,12 @@ pub const MAX_DEN: u32 = 65536;
 
 // The exact flag of a refused call.
 const DARK: bool = false;
+
+// The refusal of an accepted call.
+const NOT_REFUSED: Refusal = Refusal {
+    number: 0,
+    place: 0,
+};
 
 // The values from low to high, in steps, both ends included.
 pub struct Interval {
@@ -119,30 +130,31 @@ pub struct Enclosure {
 pub fn subdivide(c: Curve, num: u32, den: u32) -> Subdivision
     ensures { λ r. ⌜ r ≡ subdivided c num den ⌝ }
 {
-    let refusal = call_refusal(c, num, den);
-    if refusal.number != 0 {
+    let mut left = [0; SIDES];
+    let mut right = [0; SIDES];
+    if !accepts(&mut right, c, num, den) {
         let none = zero_curve();
         return Subdivision {
-            refusal,
+            refusal: call_refusal(c, num, den),
             left: none,
             right: none,
             exact: DARK,
         };
     }
-    let table = table_of(c, num, den);
-    let left = table.left;
-    let right = table.right;
+    let degree = c.degree;
+    let n = degree as usize;
+    let exact = table_of(&mut left, &mut right, n, num, den);
     Subdivision {
-        refusal,
+        refusal: NOT_REFUSED,
         left: Curve {
-            degree: c.degree,
-            points: left,
+            degree,
+            points: points_of(&left),
         },
         right: Curve {
-            degree: c.degree,
-            points: right,
+            degree,
+            points: points_of(&right),
         },
-        exact: table.exact,
+        exact,
     }
 }
 
@@ -150,15 +162,25 @@ pub fn subdivide(c: Curve, num: u32, den: u32) -> Subdivision
 pub fn evaluate(c: Curve, num: u32, den: u32) -> Evaluation
     ensures { λ r. ⌜ r ≡ evaluated c num den ⌝ }
 {
-    let pieces = subdivide(c, num, den);
-    let refusal = pieces.refusal;
-    let right = pieces.right;
-    let load = right.points[0];
+    let mut left = [0; SIDES];
+    let mut right = [0; SIDES];
+    if !accepts(&mut right, c, num, den) {
+        let none = zero_rect();
+        return Evaluation {
+            refusal: call_refusal(c, num, den),
+            load: none,
+            ohms: ohms_of(none),
+            exact: DARK,
+        };
+    }
+    let n = c.degree as usize;
+    let exact = table_of(&mut left, &mut right, n, num, den);
+    let load = rect_at(&right, 0);
     Evaluation {
-        refusal,
+        refusal: NOT_REFUSED,
         load,
         ohms: ohms_of(load),
-        exact: pieces.exact,
+        exact,
     }
 }
 

@@ -1,25 +1,23 @@
 -- What it means that the summed reading is not refused, and its answer by whether it is.
 -- Assumes nothing.
-use mathlib.Core.Path.{_≡_, refl, sym, _∙_, subst}
+use mathlib.Core.Path.{_≡_, refl, _∙_}
 use mathlib.Core.Bool.{true, false, _&&_}
 use Prim.Native.Nat.{ℕ, _+_, _≤_}
 use native.Mathlib.Omega.{arith}
-use borrow.Author.Tests.{le-leb}
-use lib.Dec.{T, leb, eqb, leb→le, le→leb}
+use borrow.Author.Tests.{leb-true, le-leb}
+use lib.Dec.{leb, eqb, leb→le, le→leb}
 use Rattle.rational.proofs.Truth.{and-both, both-and}
 use Rattle.bernstein.proofs.EveryMap.{all-at, all-of}
 use Rattle.curve.specs.declared.Curve.{Curve}
 use Rattle.curve.specs.declared.Evaluation.{Evaluation}
-use Rattle.curve.specs.Rect.{sidesInRange, sidesOrdered}
 use Rattle.curve.specs.Curve.{point}
 use Rattle.curve.specs.Refusals.{none, curveRefusal, Accepted}
-use Rattle.curve.proofs.Tests.{true-of, or-split, or-none, unless-holds, unless-none}
-use Rattle.curve.proofs.Accepted.{Facts, facts-accepted, number-accepted, accepted-facts, range-sides, sides-range, order-sides, sides-order}
+use Rattle.curve.proofs.Tests.{or-split, or-none, unless-holds, unless-none}
+use Rattle.curve.proofs.Accepted.{goodAt, tests-facts, facts-degree, facts-good, facts-accepted, number-accepted, accepted-facts}
 use Rattle.curve.proofs.Answers.{evaluation, noEvaluation, where-none, where-some, in-both}
 use Rattle.sixteenths.specs.Weights.{sixteenths, highest}
 use Rattle.sixteenths.specs.Sixteenths.{summedLoad, summedExact, numeratorRefusal, sixteenthsRefusal, evaluatedSixteenths}
 use Rattle.sixteenths.specs.Inner.{goodBelow, hasWeights, accepts}
-use Rattle.sixteenths.proofs.Summing.{good}
 
 pub number-numerator : (j : ℕ) → numeratorRefusal j .number ≡ 0 → j ≤ sixteenths
 unfolding numeratorRefusal
@@ -56,30 +54,13 @@ module _ (c : Curve) (j : ℕ) where
 
   -- ---- the tests of one pass
 
-  good-facts : hasWeights (c .degree) j ≡ true → goodBelow (c .degree + 1) (point c) ≡ true → Facts c
-  good-facts weights all =
-      let (degree, place) = and-both (leb 1 (c .degree) && leb (c .degree) highest) (leb j sixteenths) weights in
-      let (some, few) = and-both (leb 1 (c .degree)) (leb (c .degree) highest) degree in
-      record {
-        some = leb→le 1 (c .degree) (subst T (sym some) tt);
-        few = leb→le (c .degree) highest (subst T (sym few) tt);
-        inRange = λ k h. range-sides (point c k) (subst T (sym (tests k h .0)) tt);
-        ordered = λ k h. order-sides (point c k) (subst T (sym (tests k h .1)) tt);
-      }
-    where
-      tests : (k : ℕ) → k ≤ c .degree → (sidesInRange (point c k) ≡ true) × (sidesOrdered (point c k) ≡ true)
-      tests k h = and-both (sidesInRange (point c k)) (sidesOrdered (point c k)) (all-at (c .degree + 1) (good (point c)) all k (omega arith))
-
   pub accepts-facts : accepts c j ≡ true → Accepted c × (j ≤ sixteenths)
   accepts-facts h =
       let (weights, all) = and-both (hasWeights (c .degree) j) (goodBelow (c .degree + 1) (point c)) h in
       let (degree, place) = and-both (leb 1 (c .degree) && leb (c .degree) highest) (leb j sixteenths) weights in
-      (facts-accepted (good-facts weights all), leb→le j sixteenths (subst T (sym place) tt))
+      (facts-accepted (tests-facts c degree (λ k h. all-at (c .degree + 1) (goodAt c) all k (omega arith))), leb-true j sixteenths place)
 
   pub facts-accepts : Accepted c → j ≤ sixteenths → accepts c j ≡ true
   facts-accepts a h =
       let f = accepted-facts c a in
-      both-and (both-and (both-and (le-leb 1 (c .degree) (f .some)) (le-leb (c .degree) highest (f .few))) (le-leb j sixteenths h))
-      (all-of (c .degree + 1) (good (point c)) (λ k l. both-and
-      (true-of (sidesInRange (point c k)) (sides-range (point c k) (f .inRange k (omega arith))))
-      (true-of (sidesOrdered (point c k)) (sides-order (point c k) (f .ordered k (omega arith))))))
+      both-and (both-and (facts-degree f) (le-leb j sixteenths h)) (all-of (c .degree + 1) (goodAt c) (λ k l. facts-good f k (omega arith)))

@@ -4,7 +4,6 @@ pub mod Lifted
 pub mod Blocks
 pub mod Powers
 pub mod Arms
-pub mod Tests
 pub mod Summing
 pub mod Reading
 pub mod Answers

@@ -1,11 +1,10 @@
 // The four sums of a reading, over all control points of a curve, each side times its weight. Sides are moved up by the largest one first,
 // so that natural numbers are added; a sum is at most 2 to the power 57.
 ghost use mathlib.Core.Path.{_≡_};
-ghost use mathlib.Core.Bool.{true, _&&_};
+ghost use mathlib.Core.Bool.{true};
 ghost use Prim.Native.Nat.{ℕ, _+_, _*_, _-_, _<_, _≤_};
 ghost use lib.ListN.{getD};
 ghost use Rattle.bernstein.specs.WholeSum.{weight};
-ghost use Rattle.curve.specs.Rect.{endsInRange, sidesInRange, endsOrdered, sidesOrdered};
 ghost use Rattle.curve.specs.Curve.{point};
 ghost use Rattle.curve.specs.Inner.{Side, Held};
 ghost use Rattle.sixteenths.specs.Weights.{sixteenths, highest, block};
@@ -15,11 +14,10 @@ use crate::weights::BLOCK;
 use crate::weights::HIGHEST_DEGREE;
 use crate::weights::weights_at;
 use curve::Curve;
-use curve::Interval;
 use curve::MAX_SIDE;
-use curve::MIN_SIDE;
 use curve::Rect;
 use curve::is_from_one_to;
+use curve::is_good;
 
 pub struct Sums {
     pub rlow: u64,
@@ -72,20 +70,6 @@ const NOT_ACCEPTED: Pass = Pass {
     good: false,
     sums: ZERO,
 };
-
-// Whether an interval's ends are in range and in order. In order, each end needs one test of its range.
-fn is_good_interval(i: Interval) -> bool
-    ensures { λ r. ⌜ r ≡ (endsInRange i && endsOrdered i) ⌝ }
-{
-    MIN_SIDE <= i.low && (i.low <= i.high && i.high <= MAX_SIDE)
-}
-
-// Whether a control point's sides are in range and in order.
-fn is_good(p: Rect) -> bool
-    ensures { λ r. ⌜ r ≡ (sidesInRange p && sidesOrdered p) ⌝ }
-{
-    is_good_interval(p.resistance) && is_good_interval(p.reactance)
-}
 
 // One pass over the points of a curve of degree n, whose weights begin at an index. It ends at a point whose sides are not in range and in order.
 fn sums_from(c: Curve, w: [u64; BLOCK], n: usize, from: usize) -> Pass

@@ -1,5 +1,5 @@
 //! The calls that are timed, each on the same input and with buffers of its own, and how the sides and the
-//! flag of its result are read off its buffers. Only the calls are timed.
+//! flag of its result are read off its buffers. Only the calls are timed. The limit has no result to read.
 
 use crate::{plain, plain_enclose, plain_sixteenths};
 use jusqani::{raw, CURVE_LENGTH, MAX_DEGREE, PLACES, RECT_LENGTH};
@@ -29,7 +29,7 @@ pub const WITH_SPREAD: usize = 3;
 
 /// The buffers for the results: ours are as include/jusqani.h has them, plain Rust's are sides, and at a
 /// sixteenth ohms too. Each has a flag of its own, which tells whether the result is exact, or what was
-/// found.
+/// found. The limit stores where plain Rust does.
 pub struct Buffers {
     load: [i32; RECT_LENGTH],
     ohms: [f32; RECT_LENGTH],
@@ -57,16 +57,20 @@ impl Buffers {
     };
 }
 
-/// A call, which answers 0 where it is not refused, and the sides and the flag that it left.
+/// What is timed; it answers 0 where it is not refused.
+pub type Run<I> = fn(&I, &mut Buffers) -> u64;
+
+/// A call, and the sides and the flag that it left.
 pub struct Call<I> {
-    pub run: fn(&I, &mut Buffers) -> u64,
+    pub run: Run<I>,
     pub result: fn(&Buffers) -> (Vec<i32>, u32),
 }
 
-/// An operation by both sides.
+/// An operation by both sides, and its limit where that is timed too: plain Rust's tests and copies alone.
 pub struct Operation<I> {
     pub ours: Call<I>,
     pub plain: Call<I>,
+    pub limit: Option<Run<I>>,
 }
 
 pub const EVALUATE: Operation<Input> = Operation {
@@ -83,6 +87,9 @@ pub const EVALUATE: Operation<Input> = Operation {
         },
         result: |out| (out.plain[..RECT_LENGTH].to_vec(), out.plain_flag),
     },
+    limit: Some(|Input { sides, num, den }, out| {
+        plain::evaluate_limit(sides, *num, *den, &mut out.plain, &mut out.plain_flag).into()
+    }),
 };
 
 pub const SIXTEENTHS: Operation<AtSixteenth> = Operation {
@@ -107,6 +114,7 @@ pub const SIXTEENTHS: Operation<AtSixteenth> = Operation {
             (with_ohms(load, &out.plain_ohms), out.plain_flag)
         },
     },
+    limit: None,
 };
 
 /// A load's sides, and behind them the bits of the ohms.
@@ -129,6 +137,9 @@ pub const SUBDIVIDE: Operation<Input> = Operation {
         },
         result: |out| (out.plain.to_vec(), out.plain_flag),
     },
+    limit: Some(|Input { sides, num, den }, out| {
+        plain::subdivide_limit(sides, *num, *den, &mut out.plain, &mut out.plain_flag).into()
+    }),
 };
 
 pub const fn enclose<const NUMBERS: usize>() -> Operation<Measured<NUMBERS>> {
@@ -141,5 +152,6 @@ pub const fn enclose<const NUMBERS: usize>() -> Operation<Measured<NUMBERS>> {
             run: |ohms, out| plain_enclose::enclose(ohms, &mut out.plain, &mut out.plain_flag),
             result: |out| (out.plain[..RECT_LENGTH].to_vec(), out.plain_flag),
         },
+        limit: None,
     }
 }

@@ -1,6 +1,7 @@
 //! Times our evaluate, subdivide, evaluate_sixteenths and enclose beside plain Rust: one process, the same
 //! inputs, rounds in turn. It prints the median time of a call on each side, and the median and the middle
-//! half of the ratios, ours to plain.
+//! half of the ratios, ours to plain; for evaluate and subdivide also the median ratio of the limit, which
+//! is plain Rust's tests and copies alone, to plain.
 #![forbid(unsafe_code)]
 
 mod calls;
@@ -8,13 +9,14 @@ mod plain;
 mod plain_enclose;
 mod plain_sixteenths;
 
-use calls::{enclose, AtSixteenth, Buffers, Call, Input, Measured, Operation};
+use calls::{enclose, AtSixteenth, Buffers, Input, Measured, Operation, Run};
 use calls::{CURVE_SIDES, EVALUATE, PLAIN_LOAD, SIXTEENTHS, SUBDIVIDE, WITH_SPREAD};
 use jusqani::{MAX_DEGREE, MAX_DEN};
 use second::draw::curve;
 use second::given::Given;
 use second::rng::Rng;
 use std::hint::black_box;
+use std::ops::RangeInclusive;
 use std::process::ExitCode;
 use std::time::Instant;
 
@@ -24,6 +26,9 @@ const INPUTS: usize = 256;
 /// machine does out of most of them.
 const TIMES: usize = 2;
 const ROUNDS: usize = 2_001;
+/// What the den of a parameter is drawn from: all that are accepted, or 16 alone.
+const ANY_DEN: RangeInclusive<i64> = 1..=MAX_DEN as i64;
+const DEN_16: RangeInclusive<i64> = 16..=16;
 /// The seventeen places j/16, each on so many curves.
 const SIXTEENTH_PLACES: usize = 17;
 const SIXTEENTH_CURVES: usize = 32;
@@ -49,14 +54,16 @@ fn main() -> ExitCode {
 }
 
 fn curves() -> Result<(), String> {
-    let mut rng = Rng::new(SEED);
-    let inputs: Vec<Input> = (0..INPUTS).map(|_| input(&mut rng)).collect();
+    let [any_den, den_16] = [ANY_DEN, DEN_16].map(inputs);
     println!(
         "degree {MAX_DEGREE}, {INPUTS} inputs, {ROUNDS} rounds of {TIMES} times all inputs; the results' \
          buffers are used again and not cleared"
     );
-    side_by_side("evaluate", &EVALUATE, &inputs, TIMES)?;
-    side_by_side("subdivide", &SUBDIVIDE, &inputs, TIMES)
+    println!("the limit is plain's input tests and copies alone, without the maps");
+    side_by_side("evaluate", &EVALUATE, &any_den, TIMES)?;
+    side_by_side("subdivide", &SUBDIVIDE, &any_den, TIMES)?;
+    side_by_side("evaluate, den 16", &EVALUATE, &den_16, TIMES)?;
+    side_by_side("subdivide, den 16", &SUBDIVIDE, &den_16, TIMES)
 }
 
 fn sixteenths() -> Result<(), String> {
@@ -88,10 +95,16 @@ fn measurements() -> Result<(), String> {
     side_by_side("enclose", &enclose::<PLAIN_LOAD>(), &plain, MEASURED_TIMES)
 }
 
+/// The inputs of a row; the curves are the same ones, whatever the dens are.
+fn inputs(dens: RangeInclusive<i64>) -> Vec<Input> {
+    let mut rng = Rng::new(SEED);
+    (0..INPUTS).map(|_| input(&mut rng, &dens)).collect()
+}
+
 /// An accepted curve and an accepted parameter.
-fn input(rng: &mut Rng) -> Input {
+fn input(rng: &mut Rng, dens: &RangeInclusive<i64>) -> Input {
     let given = Given::exact(&curve(rng, MAX_DEGREE as usize));
-    let den = rng.between(1, MAX_DEN.into());
+    let den = rng.between(*dens.start(), *dens.end());
     Input {
         sides: std::array::from_fn::<i32, CURVE_SIDES, _>(|side| given.sides()[side]),
         num: rng.between(0, den) as u32,
@@ -120,7 +133,7 @@ fn with_spread(rng: &mut Rng) -> Measured<WITH_SPREAD> {
 
 /// Whether both sides accept every input and give the same sides and the same flag.
 fn agree<I>(operation: &Operation<I>, inputs: &[I]) -> bool {
-    let Operation { ours, plain } = operation;
+    let Operation { ours, plain, .. } = operation;
     inputs.iter().all(|input| {
         let mut buffers = Buffers::EMPTY;
         let answers = [ours, plain].map(|call| (call.run)(input, &mut buffers));
@@ -128,7 +141,13 @@ fn agree<I>(operation: &Operation<I>, inputs: &[I]) -> bool {
     })
 }
 
-/// Times one operation on both sides, each going first in every other round.
+/// Whether a run refuses no input.
+fn accepts<I>(run: Run<I>, inputs: &[I]) -> bool {
+    let mut buffers = Buffers::EMPTY;
+    inputs.iter().all(|input| run(input, &mut buffers) == 0)
+}
+
+/// Times one operation on both sides, and its limit where it has one, and prints the row.
 fn side_by_side<I>(
     name: &str,
     operation: &Operation<I>,
@@ -138,27 +157,42 @@ fn side_by_side<I>(
     if !agree(operation, inputs) {
         return Err(format!("{name}: the results differ"));
     }
-    let Operation { ours, plain } = operation;
-    let (mut plain_times, mut our_times, mut ratios) = (Vec::new(), Vec::new(), Vec::new());
-    for round in 0..ROUNDS {
-        let (plain_time, our_time) = if round % 2 == 0 {
-            let plain_time = timed(plain, inputs, times);
-            (plain_time, timed(ours, inputs, times))
-        } else {
-            let our_time = timed(ours, inputs, times);
-            (timed(plain, inputs, times), our_time)
-        };
-        plain_times.push(plain_time);
-        our_times.push(our_time);
-        ratios.push(our_time / plain_time);
+    let Operation { ours, plain, limit } = operation;
+    if limit.is_some_and(|limit| !accepts(limit, inputs)) {
+        return Err(format!("{name}: the limit refuses an input"));
     }
-    let [[_, plain, _], [_, ours, _], [low, ratio, high]] =
-        [plain_times, our_times, ratios].map(quartiles);
-    let [plain, ours] = [plain, ours].map(shown);
-    println!(
-        "{name:<20} plain {plain:>5} ns, ours {ours:>5} ns, ours/plain {ratio:.2} ({low:.2} to {high:.2})"
-    );
+    let runs: Vec<_> = [plain.run, ours.run].into_iter().chain(*limit).collect();
+    println!("{name:<20} {}", row(&in_turn(&runs, inputs, times)));
     Ok(())
+}
+
+/// Each run's times, one for each round. The runs take turns in going first.
+fn in_turn<I>(runs: &[Run<I>], inputs: &[I], times: usize) -> Vec<Vec<f64>> {
+    let mut measured = vec![Vec::new(); runs.len()];
+    for round in 0..ROUNDS {
+        for turn in 0..runs.len() {
+            let next = (round + turn) % runs.len();
+            measured[next].push(timed(runs[next], inputs, times));
+        }
+    }
+    measured
+}
+
+/// What is printed of the times of plain Rust, of ours and, where it is there, of the limit.
+fn row(measured: &[Vec<f64>]) -> String {
+    let to_plain = |times: &Vec<f64>| {
+        let pairs = times.iter().zip(&measured[0]);
+        quartiles(pairs.map(|(time, plain)| time / plain).collect())
+    };
+    let [plain, ours] = [0, 1].map(|side| shown(quartiles(measured[side].clone())[1]));
+    let [low, ratio, high] = to_plain(&measured[1]);
+    let both = format!(
+        "plain {plain:>5} ns, ours {ours:>5} ns, ours/plain {ratio:.2} ({low:.2} to {high:.2})"
+    );
+    match measured.get(2).map(to_plain) {
+        Some([_, limit, _]) => format!("{both}, limit/plain {limit:.2}"),
+        None => both,
+    }
 }
 
 /// Nanoseconds as they are printed: a short time with its tenths, which count there.
@@ -168,12 +202,12 @@ fn shown(nanoseconds: f64) -> String {
 }
 
 /// Nanoseconds for one call.
-fn timed<I>(call: &Call<I>, inputs: &[I], times: usize) -> f64 {
+fn timed<I>(run: Run<I>, inputs: &[I], times: usize) -> f64 {
     let mut buffers = Buffers::EMPTY;
     let begun = Instant::now();
     for _ in 0..times {
         for input in inputs {
-            black_box((call.run)(black_box(input), black_box(&mut buffers)));
+            black_box(run(black_box(input), black_box(&mut buffers)));
         }
     }
     begun.elapsed().as_nanos() as f64 / (times * inputs.len()) as f64
@@ -188,18 +222,23 @@ fn quartiles(mut times: Vec<f64>) -> [f64; 3] {
 #[cfg(test)]
 mod tests {
     use super::*;
+    use jusqani::MAX_SIDE;
+
+    const HALF: Input = Input {
+        sides: [7; CURVE_SIDES],
+        num: 1,
+        den: 2,
+    };
 
     #[test]
     fn times_calls_that_agree() {
         let mut rng = Rng::new(SEED);
-        let mut inputs: Vec<Input> = (0..INPUTS).map(|_| input(&mut rng)).collect();
+        let mut inputs: Vec<Input> = [ANY_DEN, DEN_16].into_iter().flat_map(inputs).collect();
         // One whose flag is lit between 0 and 1, which is rare among those drawn.
-        inputs.push(Input {
-            sides: [7; CURVE_SIDES],
-            num: 1,
-            den: 2,
-        });
-        assert!(agree(&EVALUATE, &inputs) && agree(&SUBDIVIDE, &inputs));
+        inputs.push(HALF);
+        for operation in [EVALUATE, SUBDIVIDE] {
+            assert!(agree(&operation, &inputs) && accepts(operation.limit.unwrap(), &inputs));
+        }
         for degree in 1..=MAX_DEGREE {
             assert!(agree(&SIXTEENTHS, &at_sixteenths(&mut rng, degree)));
         }
@@ -207,6 +246,49 @@ mod tests {
         let plain: Vec<_> = spread.iter().map(|[r, x, _]| [*r, *x]).collect();
         assert!(agree(&enclose::<WITH_SPREAD>(), &spread));
         assert!(agree(&enclose::<PLAIN_LOAD>(), &plain));
+    }
+
+    /// The rows at any den and at den 16 differ in the parameters alone.
+    #[test]
+    fn draws_the_same_curves_at_den_16() {
+        let [any_den, den_16] = [ANY_DEN, DEN_16].map(inputs);
+        let mut pairs = any_den.iter().zip(&den_16);
+        assert!(pairs.all(|(any, at_16)| any.sides == at_16.sides && at_16.den == 16));
+        assert!((0..=16).all(|num| den_16.iter().any(|input| input.num == num)));
+    }
+
+    /// The limit makes every test that plain Rust makes, also those of the last sides, and answers alike.
+    #[test]
+    fn the_limit_refuses_as_plain_does() {
+        let with_last = |last| {
+            let mut sides = HALF.sides;
+            sides[CURVE_SIDES - 1] = last;
+            Input { sides, ..HALF }
+        };
+        let refused = [
+            (2, with_last(MAX_SIDE + 1)),
+            (3, with_last(6)),
+            (4, Input { den: 0, ..HALF }),
+            (5, Input { num: 3, ..HALF }),
+        ];
+        for operation in [EVALUATE, SUBDIVIDE] {
+            for (number, input) in &refused {
+                let runs = [operation.plain.run, operation.limit.unwrap()];
+                let mut buffers = Buffers::EMPTY;
+                let answers = runs.map(|run| run(input, &mut buffers));
+                assert_eq!(answers, [*number; 2]);
+            }
+        }
+    }
+
+    /// The median ratio is the one of the rounds, and a row without a limit ends before it.
+    #[test]
+    fn shows_the_times_of_a_row() {
+        let plain = vec![500.0, 40.0, 200.0, 250.0, 100.0];
+        let measured = [plain, vec![50.0; 5], vec![20.0; 5]];
+        let both = "plain   200 ns, ours    50 ns, ours/plain 0.25 (0.20 to 0.50)";
+        assert_eq!(row(&measured[..2]), both);
+        assert_eq!(row(&measured), format!("{both}, limit/plain 0.10"));
     }
 
     /// Tenths for a call of a few nanoseconds, none for one of hundreds.

@@ -1,9 +1,11 @@
 //! The plain side: what one would write by hand in Rust for the same slices and the same refusals. One
 //! table in place, sides of 32 bits, products of 64 bits, and one division for each side. It works the
 //! exact flag out as ours does, from the remainder of each division; it works out no ohms, which ours does.
+//! Below it stands the limit: its tests and its copies alone, which no way of making the maps can save.
 
 use crate::calls::CURVE_SIDES;
 use jusqani::{MAX_DEN, MAX_SIDE, PLACES, RECT_LENGTH};
+use std::hint::black_box;
 
 type Rect = [i32; RECT_LENGTH];
 type Points = [Rect; PLACES];
@@ -97,5 +99,33 @@ pub fn subdivide(sides: &[i32], num: u32, den: u32, out: &mut [i32], exact: &mut
     store(&left, &mut out[..CURVE_SIDES]);
     store(&points, &mut out[CURVE_SIDES..]);
     *exact = whole.into();
+    0
+}
+
+/// Evaluate without its maps: the copy, the tests, and a result of the same size. The compiler does not know
+/// where the stored rectangle stands, so that it cannot leave the copy of the others out.
+pub fn evaluate_limit(sides: &[i32], num: u32, den: u32, out: &mut [i32], exact: &mut u32) -> u32 {
+    let points = points_of(sides);
+    let number = refusal(&points, num, den);
+    if number != 0 {
+        return number;
+    }
+    let first = black_box(0);
+    store(&points[first..], &mut out[..RECT_LENGTH]);
+    *exact = 1;
+    0
+}
+
+/// Subdivide without its maps, in the same way; both pieces are the curve itself.
+pub fn subdivide_limit(sides: &[i32], num: u32, den: u32, out: &mut [i32], exact: &mut u32) -> u32 {
+    let points = points_of(sides);
+    let number = refusal(&points, num, den);
+    if number != 0 {
+        return number;
+    }
+    let first = black_box(0);
+    store(&points[first..], &mut out[..CURVE_SIDES]);
+    store(&points[first..], &mut out[CURVE_SIDES..]);
+    *exact = 1;
     0
 }

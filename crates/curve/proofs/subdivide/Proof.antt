@@ -1,49 +1,94 @@
--- `subdivide` meets its contract: a refusal with zero curves, or both pieces off the table.
+-- `subdivide` meets its contract: a refusal with zero curves, or both pieces and the flag off the table.
 -- Assumes nothing.
-use mathlib.Core.Path.{sym, _∙_}
+use mathlib.Core.Path.{sym, ap, ap₂, _∙_}
+use mathlib.Core.Bool.{Bool}
+use mathlib.Core.List.{List}
+use Prim.Native.Nat.{ℕ}
 use borrow.Author.Needs.{needs}
+use borrow.Author.Tests.{not-true, not-false}
+use Rattle.curve.specs.declared.Rect.{Rect}
+use Rattle.curve.specs.declared.Subdivision.{Subdivision}
 use Rattle.curve.specs.Curve.{leftOf, rightOf}
-use Rattle.curve.specs.Refusals.{Accepted, AcceptedAt}
-use Rattle.curve.proofs.Refused.{number-refused, number-passed}
-use Rattle.curve.proofs.Accepted.{call-accepted, accepted-call, accepted-ready, parameter-facts}
-use Rattle.curve.proofs.Answers.{subdivided-accepted, subdivided-refused}
+use Rattle.curve.specs.Refusals.{none, Accepted, AcceptedAt}
+use Rattle.curve.specs.Inner.{Taken}
+use Rattle.curve.proofs.Accepted.{accepted-facts, parameter-facts}
+use Rattle.curve.proofs.Answers.{subdivision, subdivided-accepted, subdivided-refused}
+use Rattle.curve.proofs.Placed.{clear}
+use Rattle.curve.proofs.Stages.{taken-begun, table-left, table-right, table-flag}
 use Rattle.curve.proofs.subdivide.Statement.{statement}
 use Rattle.curve.proofs.subdivide.Tie as tie
 
-call-refusal-requires : tie.Need-call-refusal-requires
-call-refusal-requires c κs = search needs
+accepts-requires : tie.Need-accepts-requires
+accepts-requires c κs = clear
 
 zero-curve-requires : tie.Need-zero-curve-requires
 zero-curve-requires c κs = search needs
 
+call-refusal-requires : tie.Need-call-refusal-requires
+call-refusal-requires c κs = search needs
+
 returns : tie.Need-returns
 returns c =
-    let e = c .before .before .before .call-refusal .ensures in
-    let a = c .before .before .before .before .args in
-    rw (c .zero-curve .ensures, e) (sym (subdivided-refused (a .c) (a .num) (a .den) (number-refused e (c .before .if1 .taken))))
+    let t = c .before .before in
+    let a = t .before .before .before .args in
+    let refused = t .before .accepts .ensures .1 (not-true (t .before .accepts .result) (t .if1 .taken)) in
+    rw (c .before .zero-curve .ensures, c .call-refusal .ensures) (sym (subdivided-refused (a .c) (a .num) (a .den) refused))
 
--- past the test the curve and the parameter are accepted
-accepted : (c : tie.Else1) →
-    Accepted (c .before .before .before .args .c) × AcceptedAt (c .before .before .before .args .num) (c .before .before .before .args .den)
-accepted c =
-    let a = c .before .before .before .args in
-    call-accepted (a .c) (a .num) (a .den) (number-passed (c .before .before .call-refusal .ensures) (c .if1 .left))
+-- past the test the call is accepted, and the table starts from the curve
+accepted : (c : tie.Else1) → let a = c .before .before .before .args in Accepted (a .c) × AcceptedAt (a .num) (a .den) × Taken (a .c) (c .before .accepts .last .0)
+accepted c = c .before .accepts .ensures .0 (not-false (c .before .accepts .result) (c .if1 .left))
 
 table-of-requires : tie.Need-table-of-requires
 table-of-requires c κs =
-    let a = c .before .before .before .args in
-    (accepted-ready (a .c) (accepted c .0), parameter-facts (a .num) (a .den) (accepted c .1) .factors)
+    let e = c .before .before in
+    let a = e .before .before .before .args in
+    let (ok, at, taken) = accepted e in
+    (clear, (taken-begun (a .c) (e .before .accepts .last .0) ok taken, parameter-facts (a .num) (a .den) at .factors))
+
+-- the test, from where the table is made
+abbrev testOf : tie.After-table-of → tie.Else1
+testOf t = t .before .before .before
+
+points-of-requires : tie.Need-points-of-requires
+points-of-requires c κs = search needs
+
+points-of-requires-2 : tie.Need-points-of-requires-2
+points-of-requires-2 c κs = search needs
+
+-- an answer with these control points of its pieces
+abbrev pieces : ℕ → List Rect → List Rect → Bool → Subdivision
+pieces n x y b = subdivision (record { degree = n; points = x }) (record { degree = n; points = y }) b none
 
 returns-2 : tie.Need-returns-2
 unfolding leftOf rightOf
 returns-2 c =
-    let t = c .before .before in
-    let a = t .before .before .before .before .args in
-    let ok = accepted (t .before) in
-    rw (t .table-of .ensures .0, t .table-of .ensures .1, t .table-of .ensures .2, t .before .before .before .call-refusal .ensures ∙ accepted-call (a .c) (a .num) (a .den) (ok .0) (ok .1))
-    (sym (subdivided-accepted (a .c) (a .num) (a .den) (ok .0) (ok .1)))
+    let t = c .before .before .before .before in
+    let e = testOf t in
+    let a = e .before .before .before .args in
+    let n = a .c .degree in
+    let (ok, at, taken) = accepted e in
+    let few = accepted-facts (a .c) ok .few in
+    let l = e .before .accepts .last .0 in
+    let left = t .table-of .last .0 in
+    let right = t .table-of .last .1 .0 in
+    let b = t .table-of .result in
+    let table = t .table-of .ensures in
+    let first = c .before .before .points-of .ensures ∙ table-left (a .c) (a .num) (a .den) l left right b few taken table in
+    let rest = c .points-of2 .ensures ∙ table-right (a .c) (a .num) (a .den) l left right b few taken table in
+    ap₂ (λ (x y : List Rect). pieces n x y b) first rest
+    ∙ ap (pieces n (leftOf (a .c) (a .num) (a .den) .points) (rightOf (a .c) (a .num) (a .den) .points)) (table-flag (a .c) (a .num) (a .den) l left right b few taken table)
+    ∙ sym (subdivided-accepted (a .c) (a .num) (a .den) ok at)
 
 pub subdivide-spec : {M : Type 1} → statement M
 subdivide-spec =
     tie.close
-    (tie.spec call-refusal-requires zero-curve-requires returns table-of-requires returns-2)
+    (tie.spec
+    accepts-requires
+    zero-curve-requires
+    call-refusal-requires
+    returns
+    (λ c. search needs)
+    table-of-requires
+    points-of-requires
+    points-of-requires-2
+    returns-2)

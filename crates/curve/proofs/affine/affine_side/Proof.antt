@@ -1,7 +1,7 @@
 -- `affine_side` meets its contract: from the lifted start, the quotient of the distance reaches the map.
 -- Assumes nothing.
 use mathlib.Core.Path.{_≡_, ap, _∙_}
-use Prim.Native.Nat.{ℕ, _+_, _*_, _-_, _≤_, _<_}
+use Prim.Native.Nat.{ℕ, _+_, _*_, _-_, _≤_}
 use native.Mathlib.Omega.{arith}
 use lib.IntN.{ℤ, pos, _+ℤ_, _-ℤ_}
 use mir.Syntax.{w32}
@@ -9,10 +9,10 @@ use mir.Val.{toZ, ofZ}
 use Rattle.rational.specs.Rounding.{quotient}
 use Rattle.bernstein.specs.Affine.{affine}
 use Rattle.curve.specs.Inner.{Side, roundingOf}
-use Rattle.curve.proofs.Machine.{back, signed}
+use Rattle.curve.proofs.Machine.{back, signed, told}
 use Rattle.curve.proofs.Sides.{side-back, side-fits}
 use Rattle.curve.proofs.Stages.{affine-side-held}
-use Rattle.curve.proofs.Weighing.{Distance, distance, difference-fits, back-most, start-fits, steps-small, reached, left-none}
+use Rattle.curve.proofs.Weighing.{Distance, distance, difference-fits, back-most, start-fits, reached, left-none}
 use Rattle.curve.proofs.affine.affine_side.Statement.{statement}
 use Rattle.curve.proofs.affine.affine_side.Tie as tie
 
@@ -55,7 +55,7 @@ quotient-of-requires c κs = rw (lifted (c .before), cast (c .before)) (known (c
 -- the quotient found is that of the distance
 found : (c : tie.After-quotient-of) →
     let s = c .before .before in
-    pos (c .quotient-of .result .steps) ≡ quotient (roundingOf (s .args .up)) (pos (known s .by * s .args .w .t)) (s .args .w .den)
+    c .quotient-of .result .steps ≡ quotient (roundingOf (s .args .up)) (pos (known s .by * s .args .w .t)) (s .args .w .den)
 found c = rw (lifted (c .before .before), cast (c .before .before)) at (c .quotient-of .ensures .0)
 
 cast-start : tie.Need-cast-start
@@ -67,27 +67,18 @@ sub-start c =
     let b = small s .1 in
     rw (side-back (s .pre .0), signed (s .args .w .back) (omega arith)) (start-fits (s .pre .0) (s .args .w) (s .pre .1 .1))
 
-fewer : (c : tie.After-quotient-of) → c .quotient-of .result .steps < 2147483648
-fewer c =
-    let s = c .before .before in
-    let b = small s .2 in
-    let most = steps-small (known s .by) (c .quotient-of .result .steps) (s .args .w) (roundingOf (s .args .up)) (s .pre .1 .1) (found c) in
-    omega arith
-
-cast-t10 : tie.Need-cast-t10
-cast-t10 c = let f = fewer (c .before .before) in record { sfits = omega arith }
-
 -- the sum is the map, which is a side
-summed : (c : tie.After-quotient-of) (s : ℕ) → let a = c .before .before .args in s + a .w .t ≡ a .w .den →
-    toZ w32 (ofZ w32 (toZ w32 (ofZ w32 (a .a)) -ℤ toZ w32 (a .w .back))) +ℤ toZ w32 (c .quotient-of .result .steps)
+summed : (c : tie.After-struct-told) (s : ℕ) → let q = c .before .before .before in let a = q .before .before .args in s + a .w .t ≡ a .w .den →
+    toZ w32 (ofZ w32 (toZ w32 (ofZ w32 (a .a)) -ℤ toZ w32 (a .w .back))) +ℤ toZ w32 (ofZ w32 (q .quotient-of .result .steps))
     ≡ affine (roundingOf (a .up)) s (a .w .t) (a .w .den) (a .a) (a .b)
 summed c s total =
-    let v = c .before .before in
+    let q = c .before .before .before in
+    let v = q .before .before in
     let a = v .args in
     let p = v .pre in
     let b = small v .1 in
-    rw (side-back (p .0), signed (a .w .back) (omega arith), back (start-fits (p .0) (a .w) (p .1 .1)), signed (c .quotient-of .result .steps) (fewer c))
-    (ap (λ (q : ℤ). a .a -ℤ pos (a .w .back) +ℤ q) (found c) ∙ reached (a .w) (p .1 .1) (known v) s total (roundingOf (a .up)))
+    rw (side-back (p .0), signed (a .w .back) (omega arith), back (start-fits (p .0) (a .w) (p .1 .1)), told (q .quotient-of .result .steps) (c .struct-told .given .0 .1))
+    (ap (λ (z : ℤ). a .a -ℤ pos (a .w .back) +ℤ z) (found q) ∙ reached (a .w) (p .1 .1) (known v) s total (roundingOf (a .up)))
 
 landed : (c : tie.Start) (s : ℕ) → s + c .args .w .t ≡ c .args .w .den →
     Side (affine (roundingOf (c .args .up)) s (c .args .w .t) (c .args .w .den) (c .args .a) (c .args .b))
@@ -96,20 +87,21 @@ landed c s total =
     let f = c .pre .1 .1 .factor in
     affine-side-held (roundingOf (a .up)) s (a .w .t) (a .w .den) (a .a) (a .b) (record { total = total; positive = f .positive; small = f .small }) (c .pre .0) (c .pre .1 .0)
 
-add-t8 : tie.Need-add-t8
-add-t8 c =
-    let v = c .before .before in
-    let w = v .before .before .args .w in
-    let most = v .before .before .pre .1 .1 .factor .most in
+add-t10 : tie.Need-add-t10
+add-t10 c =
+    let v = c .before .before .before .before .before in
+    let w = v .args .w in
+    let most = v .pre .1 .1 .factor .most in
     let total : w .den - w .t + w .t ≡ w .den = omega arith in
-    rw (summed v (w .den - w .t) total) (side-fits (landed (v .before .before) (w .den - w .t) total))
+    rw (summed c (w .den - w .t) total) (side-fits (landed v (w .den - w .t) total))
 
 returns : tie.Need-returns
 returns c s total =
-    let v = c .before .before in
-    let a = v .before .before .args in (
-      rw (summed v s total) (side-back (landed (v .before .before) s total)),
-      (rw (lifted (v .before .before), cast (v .before .before)) at (v .quotient-of .ensures .1)) ∙ left-none (a .w) (v .before .before .pre .1 .1) (known (v .before .before)) s total,
+    let q = c .before .before .before in
+    let v = q .before .before in
+    let a = v .args in (
+      rw (summed c s total) (side-back (landed v s total)),
+      (rw (lifted v, cast v) at (q .quotient-of .ensures .1)) ∙ left-none (a .w) (v .pre .1 .1) (known v) s total,
     )
 
 pub affine-side-spec : {M : Type 1} → statement M
@@ -123,6 +115,5 @@ affine-side-spec =
     quotient-of-requires
     cast-start
     sub-start
-    cast-t10
-    add-t8
+    add-t10
     returns)

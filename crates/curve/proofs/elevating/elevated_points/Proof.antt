@@ -15,7 +15,7 @@ use Rattle.curve.specs.declared.Rect.{Rect}
 use Rattle.curve.specs.Rect.{affineRect, exactRect}
 use Rattle.curve.specs.Curve.{point, pointsOf, elevatedPoint, elevatedExact, elevationExact}
 use Rattle.curve.proofs.Places.{points-first, points-next}
-use Rattle.curve.proofs.Weighing.{mapped-by, part-times, part-fits}
+use Rattle.curve.proofs.Weighing.{mapped-by, quotient-fits, part-times, part-fits, part-total, turns-total}
 use Rattle.curve.proofs.ElevatedPoints.{elevated-first, elevated-last, elevated-next, exact-first, exact-last, exact-next}
 use Rattle.curve.proofs.elevating.elevated_points.Statement.{statement}
 use Rattle.curve.proofs.elevating.elevated_points.Tie as tie
@@ -34,11 +34,18 @@ abbrev μ-loop : tie.MeasureT-loop
 abbrev startOf : tie.After-points Inv-loop μ-loop → tie.Start Inv-loop μ-loop
 startOf c = c .before .before .before
 
+-- the two factors add up
+total : (n k : ℕ) → k ≤ n → k + 1 + (n + 1 - (k + 1)) ≡ n + 1
+total n k h = omega arith
+
 cast-n : tie.Need-cast-n Inv-loop μ-loop
 cast-n c = omega (arith, c .pre .1)
 
 add-d : tie.Need-add-d Inv-loop μ-loop
 add-d c = omega (arith, c .pre .1)
+
+cast-unit : tie.Need-cast-unit Inv-loop μ-loop
+cast-unit c = omega (arith, c .pre .1)
 
 add-unit : tie.Need-add-unit Inv-loop μ-loop
 add-unit c = omega (arith, c .pre .1)
@@ -46,8 +53,14 @@ add-unit c = omega (arith, c .pre .1)
 sub-unit : tie.Need-sub-unit Inv-loop μ-loop
 sub-unit c = omega arith
 
+cast-unit-2 : tie.Need-cast-unit-2 Inv-loop μ-loop
+cast-unit-2 c = omega (arith, c .pre .1)
+
 div-unit : tie.Need-div-unit Inv-loop μ-loop
 div-unit c = omega arith
+
+cast-unit-3 : tie.Need-cast-unit-3 Inv-loop μ-loop
+cast-unit-3 c = let few = c .pre .1 in record { fits = quotient-fits _ (c .args .t1 .degree + 1) (omega arith) (omega arith) }
 
 turns-of-requires : tie.Need-turns-of-requires Inv-loop μ-loop
 turns-of-requires c κs = let few = c .pre .1 in (omega arith, omega arith)
@@ -92,6 +105,12 @@ add-t c = omega arith
 sub-t : tie.Need-sub-t Inv-loop μ-loop
 sub-t c = omega arith
 
+cast-t : tie.Need-cast-t Inv-loop μ-loop
+cast-t c = let few = startOf (c .before .before .before .before) .pre .1 in record { fits = omega arith }
+
+cast-weights-of : tie.Need-cast-weights-of Inv-loop μ-loop
+cast-weights-of c = let few = startOf (c .before .before .before .before) .pre .1 in record { fits = omega arith }
+
 mul-weights-of : tie.Need-mul-weights-of Inv-loop μ-loop
 mul-weights-of c =
     let s = startOf (c .before .before .before .before) in
@@ -101,9 +120,13 @@ mul-weights-of c =
 weights-of-requires : tie.Need-weights-of-requires Inv-loop μ-loop
 weights-of-requires c κs =
     let s = startOf (c .before .before .before .before) in
-    let few = s .pre .1 in (
-      record { positive = omega arith; small = omega arith; most = omega arith },
-      (part-times _ (s .args .t1 .degree + 1) (omega arith) (omega arith), c .before .before .before .before .before .before .turns-of .ensures),
+    let few = s .pre .1 in
+    let d = s .args .t1 .degree + 1 in (
+      omega arith,
+      (
+        omega arith,
+        (part-total _ _ d _ (omega arith) (part-times _ d (omega arith) (omega arith)), turns-total _ _ d _ (omega arith) (c .before .before .before .before .before .before .turns-of .ensures)),
+      ),
     )
 
 mul-points : tie.Need-mul-points Inv-loop μ-loop
@@ -134,7 +157,7 @@ made c =
     let a = startOf (c .before .before .before .before .before .before) .args .t1 in
     let n = a .degree in
     let w = c .before .weights-of .ensures in
-    mapped-by (c .affine-rect .result) (c .before .weights-of .result) (point a k) (point a (k + 1)) (c .affine-rect .ensures) (k + 1) (n + 1 - (k + 1)) (n + 1) (w .0) (w .1) (omega arith)
+    mapped-by (c .affine-rect .result) (c .before .weights-of .result) (point a k) (point a (k + 1)) (c .affine-rect .ensures) (k + 1) (n + 1 - (k + 1)) (n + 1) (w .0) (w .1 ∙ total n k (omega arith)) (total n k (omega arith))
 
 loop-again : tie.Need-loop-again Inv-loop μ-loop
 loop-again c =
@@ -191,9 +214,12 @@ elevated-points-spec =
     μ-loop
     cast-n
     add-d
+    cast-unit
     add-unit
     sub-unit
+    cast-unit-2
     div-unit
+    cast-unit-3
     turns-of-requires
     zero-rect-requires
     element-copy-out-points
@@ -206,6 +232,8 @@ elevated-points-spec =
     element-copy-out-q
     add-t
     sub-t
+    cast-t
+    cast-weights-of
     mul-weights-of
     weights-of-requires
     affine-rect-requires

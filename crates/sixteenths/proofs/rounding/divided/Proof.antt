@@ -7,7 +7,7 @@ use Prim.Native.Nat.{ℕ, _*_, _+_, _/_, _^_, _≤_, _<_}
 use native.Mathlib.Nat.{div-mul-le-self, lt-div-mul-add}
 use native.Mathlib.Omega.{arith}
 use borrow.Author.Needs.{needs}
-use lib.Dec.{eqb}
+use lib.Dec.{ltb, eqb}
 use lib.IntN.{ℤ, pos, negℤ, _-ℤ_}
 use mir.Syntax.{w32}
 use mir.Val.{SFits}
@@ -16,8 +16,8 @@ use Rattle.rational.proofs.Order.{pos-mono, pos-reflects, ≤ℤ-trans, ≤ℤ-
 use Rattle.rational.proofs.Quotient.{quotient-least, natural-down}
 use Rattle.bernstein.proofs.WholeSum.{power-positive}
 use Rattle.curve.specs.Inner.{roundingOf}
-use Rattle.curve.proofs.Estimate.{bit-fits, rounded-up, reaches}
-use Rattle.curve.proofs.Machine.{back, signed}
+use Rattle.curve.proofs.Estimate.{rounded-up, reaches}
+use Rattle.curve.proofs.Machine.{back, signed, bit-small}
 use Rattle.curve.proofs.Sides.{within-fits}
 use Rattle.sixteenths.proofs.Powers.{shift-power, shifted-one, power-most}
 use Rattle.sixteenths.proofs.rounding.divided.Statement.{statement}
@@ -71,7 +71,8 @@ add-rounded : tie.Need-add-rounded
 add-rounded c =
     let s = c .before in
     let small = steps-most s in
-    rw (shifted-one (s .args .n) (s .pre .0), shift-power) (record { fits = bit-fits (s .args .sum / 16 ^ s .args .n) (s .args .sum / 16 ^ s .args .n * 16 ^ s .args .n) (s .args .sum) (omega arith) })
+    let bit = bit-small (ltb (s .args .sum / 16 ^ s .args .n * 16 ^ s .args .n) (s .args .sum)) in
+    rw (shifted-one (s .args .n) (s .pre .0), shift-power) (record { fits = omega arith })
 
 -- what was found is the quotient
 found : (c : tie.Joined1) → pos (c .if1 .rounded) ≡ quotient (roundingOf (c .before .args .up)) (pos (c .before .args .sum)) (16 ^ c .before .args .n)
@@ -82,7 +83,7 @@ found c =
     let positive = above-zero s in
     let way : Bool → ℤ = λ u. quotient (roundingOf u) (pos m) d in
     ⊎-elim
-    (λ v. (rw (shifted-one (s .args .n) (s .pre .0), shift-power) at (ap pos (v .1))) ∙ rounded-up m d positive (m / d) (lt-div-mul-add positive) (nearly m d positive) ∙ ap way (sym (v .0 .taken)))
+    (λ v. (rw (shifted-one (s .args .n) (s .pre .0), shift-power) at (ap pos (v .1))) ∙ rounded-up m d (m / d) positive (lt-div-mul-add positive) (nearly m d positive) ∙ ap way (sym (v .0 .taken)))
     (λ v. (rw shift-power at (ap pos (v .1))) ∙ sym (natural-down d positive m) ∙ ap way (sym (v .0 .left)))
     (c .if1 .came)
 
@@ -108,7 +109,7 @@ returns c =
     let h = small c in (
       rw (signed (c .if1 .rounded) (omega arith)) (back (lowered c) ∙ ap (λ (z : ℤ). z -ℤ pos 16777216) (found c)),
       ap (eqb m) (ap₂ _*_ (ap (λ (e : ℕ). m / e) (shift-power (s .args .n))) (shifted-one (s .args .n) (s .pre .0)))
-          ∙ reaches m d (above-zero s) (m / d) (lt-div-mul-add (above-zero s)) (nearly m d (above-zero s)),
+          ∙ reaches m d (m / d) (above-zero s) (lt-div-mul-add (above-zero s)) (nearly m d (above-zero s)),
     )
 
 pub divided-spec : {M : Type 1} → statement M

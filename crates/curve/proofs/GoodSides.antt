@@ -1,14 +1,14 @@
--- The test of a control point: of ends in order, one test each tells that both are in range.
+-- The test of a rectangle: of ends in order, one test each tells that both are in range.
 -- Assumes nothing.
 use mathlib.Core.Path.{_≡_, refl, sym}
 use mathlib.Core.Bool.{Bool, true, false, _&&_}
 use lib.IntN.{pos, negℤ}
 use lib.Signed.{leZ}
 use Rattle.rational.proofs.Order.{≤ℤ-trans, test-yes}
 use Rattle.curve.specs.declared.Interval.{Interval}
 use Rattle.curve.specs.Limits.{maxSide}
 use Rattle.curve.specs.Rect.{inRange, endsInRange, endsOrdered}
 use Rattle.curve.proofs.Tests.{true-of}
 
 -- three tests tell what five do, if the two others follow from them
 three-tell :

@@ -1,10 +1,10 @@
 -- `is_good_interval` meets its contract: its three tests tell what its definition asks by five.
 -- Assumes nothing.
 use mathlib.Core.Path.{_∙_}
 use Rattle.curve.proofs.Machine.{told, and-yes, and-no}
-use Rattle.sixteenths.proofs.Tests.{good-interval}
-use Rattle.sixteenths.proofs.sums.is_good_interval.Statement.{statement}
-use Rattle.sixteenths.proofs.sums.is_good_interval.Tie as tie
+use Rattle.curve.proofs.GoodSides.{good-interval}
+use Rattle.curve.proofs.checks.is_good_interval.Statement.{statement}
+use Rattle.curve.proofs.checks.is_good_interval.Tie as tie
 
 returns : tie.Need-returns
 returns c =

@@ -3,11 +3,11 @@
 use mathlib.Core.Path.{sym, _∙_}
 use mathlib.Core.Bool.{_&&_}
 use borrow.Author.Needs.{needs}
 use Rattle.curve.specs.Rect.{endsInRange, sidesInRange, endsOrdered, sidesOrdered}
 use Rattle.curve.proofs.Machine.{and-yes, and-no}
-use Rattle.sixteenths.proofs.Tests.{by-coordinate}
-use Rattle.sixteenths.proofs.sums.is_good.Statement.{statement}
-use Rattle.sixteenths.proofs.sums.is_good.Tie as tie
+use Rattle.curve.proofs.GoodSides.{by-coordinate}
+use Rattle.curve.proofs.checks.is_good.Statement.{statement}
+use Rattle.curve.proofs.checks.is_good.Tie as tie
 
 is-good-interval-requires : tie.Need-is-good-interval-requires
 is-good-interval-requires c κs = search needs
