@@ -3,6 +3,7 @@ ghost use mathlib.Core.Path.{_≡_};
 ghost use Prim.Native.Nat.{_+_, _*_, _≤_};
 ghost use lib.ListN.{length};
 ghost use Rattle.curve.specs.Limits.{maxDegree};
+ghost use Rattle.curve.specs.Curve.{pointsOf};
 ghost use Rattle.foreign.specs.Numbers.{sideAt, rectAt, curveFrom, ohmsAt, measurementFrom};
 ghost use Rattle.foreign.specs.Inner.{lastPlace};
 use crate::results::RECT_LENGTH;
@@ -90,6 +91,37 @@ pub fn curve_from(degree: u32, sides: &[i32]) -> Curve
         points[k] = rect_at(sides, RECT_LENGTH * k);
     }
     Curve { degree, points }
+}
+
+// The rectangles of a slice that has all their sides, and zero past the last one.
+fn whole_points(sides: &[i32], last: usize) -> [Rect; PLACES]
+    requires { ⌜ last ≤ maxDegree ⌝ }
+    requires { ⌜ 4 * (last + 1) ≤ length (now sides) ⌝ }
+    ensures { λ r. ⌜ r ≡ pointsOf last (λ k. rectAt (now (sides .entry)) (4 * k)) ⌝ }
+{
+    let mut points = [zero_rect(); PLACES];
+    points[0] = whole_rect_at(sides, 0);
+    let mut k = 0;
+    while k < last {
+        k += 1;
+        points[k] = whole_rect_at(sides, RECT_LENGTH * k);
+    }
+    points
+}
+
+// The curve of this degree with these sides. The slice's length is tested once, so that four sides are copied at a time: faster where the
+// curve is stored before it is looked at, and slower where its sides are used at once.
+pub fn stored_curve_from(degree: u32, sides: &[i32]) -> Curve
+    ensures { λ r. ⌜ r ≡ curveFrom degree (now (sides .entry)) ⌝ }
+{
+    let last = last_place(degree);
+    if RECT_LENGTH * (last + 1) > sides.len() {
+        return curve_from(degree, sides);
+    }
+    Curve {
+        degree,
+        points: whole_points(sides, last),
+    }
 }
 
 // The bridge's number at an index, or not a number where the slice does not have it.

@@ -29,6 +29,7 @@ use curve::Evaluation;
 use given::curve_from;
 use given::measurement_from;
 use given::rect_at;
+use given::stored_curve_from;
 use results::RECT_LENGTH;
 use results::VERDICT_LENGTH;
 use results::curve_length;
@@ -106,7 +107,7 @@ pub extern "C" fn jusqani_subdivide(
 ) -> u64
     ensures { λ r. ⌜ GivesSubdivision (subdivided (curveFrom degree (now (sides .entry))) num den) (now (left .entry)) (now (right .entry)) (now (exact .entry)) r (now (left .exit)) (now (right .exit)) (now (exact .exit)) ⌝ }
 {
-    let answer = curve::subdivide(curve_from(degree, sides), num, den);
+    let answer = curve::subdivide(stored_curve_from(degree, sides), num, den);
     let start = answer.left;
     let rest = answer.right;
     let first = with_room(answer.refusal, curve_length(start.degree), left.len());

@@ -1,0 +1,82 @@
+-- `whole_points` meets its contract. The invariant: the places up to k are filled. The measure is what is left of them.
+-- Assumes nothing.
+use mathlib.Core.Path.{_≡_, ap, ap₂, _∙_}
+use mathlib.Core.List.{List}
+use Prim.Native.Nat.{ℕ, _+_, _*_, _-_, _≤_}
+use native.Mathlib.Omega.{arith}
+use borrow.Author.Needs.{needs}
+use lib.ListN.{set}
+use lib.IntN.{ℤ}
+use Rattle.curve.specs.declared.Rect.{Rect}
+use Rattle.curve.specs.Curve.{pointsOf}
+use Rattle.curve.proofs.Places.{points-first, points-next}
+use Rattle.foreign.specs.Numbers.{rectAt}
+use Rattle.foreign.proofs.given.whole_points.Statement.{statement}
+use Rattle.foreign.proofs.given.whole_points.Tie as tie
+
+-- the rectangles of some sides
+abbrev rects : List ℤ → ℕ → Rect
+rects sides k = rectAt sides (4 * k)
+
+abbrev Inv-loop : tie.InvT-loop
+Inv-loop sides last points₀ k₀ points k = (k ≤ last) × (points ≡ pointsOf k (rects sides))
+
+abbrev μ-loop : tie.MeasureT-loop
+μ-loop sides last points₀ k₀ points k = last - k
+
+whole-rect-at-requires : tie.Need-whole-rect-at-requires Inv-loop μ-loop
+whole-rect-at-requires c κs = let room = c .before .pre .1 in omega arith
+
+loop-holds : tie.Need-loop-holds Inv-loop μ-loop
+loop-holds c = (omega arith, rw (c .before .zero-rect .ensures, c .whole-rect-at .ensures) (points-first (rects (c .before .before .args .sides .now))))
+
+add-k : tie.Need-add-k Inv-loop μ-loop
+add-k c = let few = c .before .before .before .before .pre .0 in record { fits = omega arith }
+
+mul-whole-rect-at : tie.Need-mul-whole-rect-at Inv-loop μ-loop
+mul-whole-rect-at c = let few = c .before .before .before .before .pre .0 in record { fits = omega arith }
+
+whole-rect-at-requires-2 : tie.Need-whole-rect-at-requires-2 Inv-loop μ-loop
+whole-rect-at-requires-2 c κs = let room = c .before .before .before .before .pre .1 in omega arith
+
+mul-points : tie.Need-mul-points Inv-loop μ-loop
+mul-points c = let few = c .before .before .before .before .before .pre .0 in record { fits = omega arith }
+
+array-set-from-points-2 : tie.Need-array-set-from-points-2 Inv-loop μ-loop
+array-set-from-points-2 c = let few = c .before .before .before .before .before .pre .0 in omega arith
+
+loop-less : tie.Need-loop-less Inv-loop μ-loop
+loop-less c = omega arith
+
+loop-again : tie.Need-loop-again Inv-loop μ-loop
+loop-again c =
+    let l = c .before .before in
+    let few = l .before .before .before .pre .0 in
+    let f = rects (l .before .before .before .args .sides .now) in
+    (omega arith, ap₂ (λ (x : List Rect) (v : Rect). set x (l .loop .k + 1) v) (l .loop .inv .1) (c .whole-rect-at2 .ensures) ∙ points-next (l .loop .k) f (omega arith))
+
+returns : tie.Need-returns Inv-loop μ-loop
+returns c =
+    let l = c .before in
+    let a = l .before .before .before .args in
+    let done : l .loop .k ≡ a .last = omega arith in
+    l .loop .inv .1 ∙ ap (λ (k : ℕ). pointsOf k (rects (a .sides .now))) done
+
+pub whole-points-spec : {M : Type 1} → statement M
+whole-points-spec =
+    tie.close
+    (tie.spec
+    Inv-loop
+    μ-loop
+    (λ c κs. search needs)
+    whole-rect-at-requires
+    (λ c. search needs)
+    loop-holds
+    add-k
+    mul-whole-rect-at
+    whole-rect-at-requires-2
+    mul-points
+    array-set-from-points-2
+    loop-less
+    loop-again
+    returns)
