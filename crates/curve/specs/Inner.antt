@@ -120,7 +120,7 @@ pub record Tabled (s t d n : ℕ) (P : ℕ → Rect) (left right : List ℤ) (ex
   pub rightPast : (k : ℕ) → n < k → placed right k ≡ zeroRect
   pub flag : exact ≡ DeCasteljau.everyMap (affineRect s t d) P (exactRect s t d) n
 
--- what elevation asks of a curve
+-- what elevation and the bounds ask of a curve
 pub record Ready (c : Curve) : Type 0 where
   pub some : 1 ≤ c .degree
   pub few : c .degree ≤ maxDegree
