@@ -18,7 +18,7 @@ use Rattle.search.specs.declared.Verdict.the-variants.{Refused, Inside}
 use Rattle.search.specs.Limits.{maxDepth, maxBudget}
 use Rattle.search.specs.Box.{isBox}
 use Rattle.search.specs.Walk.{walked}
-use Rattle.search.specs.Search.{boxRefusal, searchRefusal, searched}
+use Rattle.search.specs.Search.{effortRefusal, boxRefusal, searchRefusal, searched}
 
 -- what is known of a walk that is not refused
 pub record Facts (c : Curve) (box : Rect) (depth budget : ℕ) : Type 0 where
@@ -31,28 +31,36 @@ pub record Facts (c : Curve) (box : Rect) (depth budget : ℕ) : Type 0 where
 abbrev pub answer : Verdict → Refusal → SearchAnswer
 answer v r = record { refusal = r; verdict = v }
 
+-- what it means that depth and budget are not refused
+pub effort-holds : (depth budget : ℕ) → effortRefusal depth budget .number ≡ 0 → (depth ≤ maxDepth) × (1 ≤ budget) × (budget ≤ maxBudget)
+unfolding effortRefusal
+effort-holds depth budget h =
+    let (depth-none, budget-none) = or-split (unless (leb depth maxDepth) 8) (unless (leb 1 budget && leb budget maxBudget) 9) h in
+    let (low, high) = between-holds budget maxBudget 8 budget-none in
+    (leb→le depth maxDepth (unless-holds (leb depth maxDepth) 7 0 depth-none), low, high)
+
+pub effort-none : (depth budget : ℕ) → depth ≤ maxDepth → 1 ≤ budget → budget ≤ maxBudget → effortRefusal depth budget ≡ none
+unfolding effortRefusal
+effort-none depth budget shallow some few =
+    or-none (unless (leb depth maxDepth) 8) _ (unless-none (leb depth maxDepth) 8 (le→leb depth maxDepth shallow)) ∙ between-none budget maxBudget 9 some few
+
+pub effort-settled : (depth budget : ℕ) → effortRefusal depth budget .number ≡ 0 → effortRefusal depth budget ≡ none
+effort-settled depth budget h = let (shallow, some, few) = effort-holds depth budget h in effort-none depth budget shallow some few
+
 module _ (c : Curve) (box : Rect) (depth budget : ℕ) where
   pub number-facts : searchRefusal c box depth budget .number ≡ 0 → Facts c box depth budget
   unfolding searchRefusal boxRefusal
   number-facts h =
       let (curve-none, rest) = or-split (curveRefusal c) (boxRefusal box depth budget) h in
-      let (box-none, rest′) = or-split (unless (isBox box) 7) (unless (leb depth maxDepth) 8 orElse unless (leb 1 budget && leb budget maxBudget) 9) rest in
-      let (depth-none, budget-none) = or-split (unless (leb depth maxDepth) 8) (unless (leb 1 budget && leb budget maxBudget) 9) rest′ in
-      let (low, high) = between-holds budget maxBudget 8 budget-none in
-      record {
-        accepted = number-accepted c curve-none;
-        sides = unless-holds (isBox box) 6 0 box-none;
-        shallow = leb→le depth maxDepth (unless-holds (leb depth maxDepth) 7 0 depth-none);
-        some = low;
-        few = high;
-      }
+      let (box-none, effort) = or-split (unless (isBox box) 7) (effortRefusal depth budget) rest in
+      let (shallow, low, high) = effort-holds depth budget effort in
+      record { accepted = number-accepted c curve-none; sides = unless-holds (isBox box) 6 0 box-none; shallow = shallow; some = low; few = high }
 
   pub facts-none : Facts c box depth budget → searchRefusal c box depth budget ≡ none
   unfolding searchRefusal boxRefusal
   facts-none f =
       or-none (curveRefusal c) _ (f .accepted) ∙ or-none (unless (isBox box) 7) _ (unless-none (isBox box) 7 (f .sides))
-      ∙ or-none (unless (leb depth maxDepth) 8) _ (unless-none (leb depth maxDepth) 8 (le→leb depth maxDepth (f .shallow)))
-      ∙ between-none budget maxBudget 9 (f .some) (f .few)
+      ∙ effort-none depth budget (f .shallow) (f .some) (f .few)
 
   -- the answer of a walk that is not refused, of one that is, and its refusal
   pub searched-accepted : Facts c box depth budget → searched c box depth budget ≡ answer (walked box budget depth c 0 0 (Inside 0)) none
@@ -76,7 +84,7 @@ module _ (c : Curve) (box : Rect) (depth budget : ℕ) where
 pub same-refusal :
     (c : Curve) (box : Rect) (depth budget budget′ : ℕ) → 1 ≤ budget → budget ≤ maxBudget → 1 ≤ budget′ → budget′ ≤ maxBudget →
     searchRefusal c box depth budget ≡ searchRefusal c box depth budget′
-unfolding searchRefusal boxRefusal
+unfolding searchRefusal boxRefusal effortRefusal
 same-refusal c box depth budget budget′ some few some′ few′ =
     ap (λ (r : Refusal). curveRefusal c orElse unless (isBox box) 7 orElse unless (leb depth maxDepth) 8 orElse r)
     (between-none budget maxBudget 9 some few ∙ sym (between-none budget′ maxBudget 9 some′ few′))

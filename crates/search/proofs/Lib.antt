@@ -3,6 +3,7 @@ pub mod Steps
 pub mod Counts
 pub mod Due
 pub mod Accepted
+pub mod InsideWalk
 pub mod Budget
 pub mod Named
 pub mod Dyadic

@@ -31,6 +31,7 @@ use Rattle.search.specs.Box.{within, disjoint, inBox, apartFrom}
 use Rattle.search.specs.Walk.{goesOn, looked, noted}
 use Rattle.search.specs.Pieces.{pieceAt}
 use Rattle.search.specs.Promises.{answered, Allowed, LoadIn, Between, InsideMeans, OutsideMeans}
+use Rattle.search.proofs.InsideWalk.{inside-on, looked-inside, noted-inside}
 use Rattle.search.proofs.Steps.{Going, clear, marked, Rules, walk-keeps}
 use Rattle.search.proofs.Accepted.{by-answer}
 use Rattle.search.proofs.Named.{Place, whole-place, place-half, outside-names}
@@ -91,23 +92,6 @@ apart-clash o t p q e l k =
   where
     at : (x : Coordinate) → T (disjoint (along x p) (along x q)) → ⊥
     at x h = disjoint-clash (along x p) (along x q) h (loadAt o x t) (l x) (k .at x)
-
--- ---- verdicts
-
-inside-on : (v : Verdict) → reported v .number ≡ inside → goesOn v ≡ true
-inside-on Refused e = absurd (eqb-false 0 1 refl e)
-inside-on (InsideV n) e = refl
-inside-on (Outside d i n) e = absurd (eqb-false 2 1 refl e)
-inside-on (Spent n) e = absurd (eqb-false 3 1 refl e)
-inside-on (Undecided d i n) e = refl
-
-looked-inside : {v : Verdict} → Going v → reported (looked v) .number ≡ inside → reported v .number ≡ inside
-looked-inside clear e = refl
-looked-inside marked e = e
-
-noted-inside : (d i : ℕ) {v : Verdict} → Going v → reported (noted d i (looked v)) .number ≡ inside → ⊥
-noted-inside d i clear e = eqb-false 4 1 refl e
-noted-inside d i marked e = eqb-false 4 1 refl e
 
 -- ---- loads on the stretch of a piece
 

@@ -23,15 +23,15 @@ use Rattle.search.specs.Walk.{goesOn, countOf, noted, stepBy, after, ste
 use Rattle.search.specs.Search.{boxRefusal, searchRefusal, searched}
 use Rattle.search.specs.Promises.{PastUnread}
 
+pub same-curve-refusal : (c e : Curve) → SameCurve c e → curveRefusal c ≡ curveRefusal e
+same-curve-refusal c e same = sym (bounded-refusal c) ∙ ap (λ (x : Enclosure). x .refusal) (Curves.past-unread c e same .3) ∙ bounded-refusal e
+
 module _ (c e : Curve) (box : Rect) (budget : ℕ) (same : SameCurve c e) where
   bounds : bounded c ≡ bounded e
   bounds = Curves.past-unread c e same .3
 
   halves : subdivided c 1 2 ≡ subdivided e 1 2
   halves = Curves.past-unread c e same .1 1 2
-
-  refusals : curveRefusal c ≡ curveRefusal e
-  refusals = sym (bounded-refusal c) ∙ ap (λ (x : Enclosure). x .refusal) bounds ∙ bounded-refusal e
 
   -- the step at a piece with these bounds
   abbrev step : Verdict → Enclosure → Step
@@ -51,5 +51,5 @@ answer r v = cond (eqb (r .number) 0) (record { refusal = r; verdict = v }) (rec
 pub past-unread : PastUnread
 unfolding searched searchRefusal
 past-unread c e box depth budget same =
-    ap₂ answer (ap (λ (r : Refusal). r orElse boxRefusal box depth budget) (refusals c e box budget same))
+    ap₂ answer (ap (λ (r : Refusal). r orElse boxRefusal box depth budget) (same-curve-refusal c e same))
     (walks c e box budget same depth 0 0 (Inside 0))

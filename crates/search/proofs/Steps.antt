@@ -5,7 +5,7 @@ use mathlib.Core.Bool.{Bool, true, false, false≢true}
 use Prim.Native.Nat.{ℕ, zero, suc, _+_, _*_, _-_}
 use native.Mathlib.Numerals.{sub-one}
 use lib.Dec.{T, eqb}
-use borrow.Author.Tests.{eqb-true, eqb-false, ne-eqb}
+use borrow.Author.Tests.{eqb-true, eqb-false, eq-eqb, ne-eqb}
 use Rattle.curve.specs.declared.Rect.{Rect}
 use Rattle.curve.specs.declared.Curve.{Curve}
 use Rattle.curve.specs.declared.Subdivision.{Subdivision}
@@ -92,6 +92,9 @@ module _ (box : Rect) where
     pub step-ended : (piece : Curve) (v : Verdict) → goesOn v ≡ false → stepAt box budget piece v ≡ Ended
     unfolding stepAt
     step-ended piece v e = rw e
+
+    pub step-exhausted : (piece : Curve) (v : Verdict) → Going v → countOf v ≡ budget → stepAt box budget piece v ≡ Exhausted
+    step-exhausted piece v g e = step-is piece v true _ _ g (eq-eqb (countOf v) budget e) refl refl
 
     pub step-contained : (piece : Curve) (v : Verdict) → Looks budget v → Within piece → stepAt box budget piece v ≡ Contained
     step-contained piece v l w = step-is piece v false true _ (l .going) (ne-eqb (countOf v) budget (l .below)) (w .contained) refl

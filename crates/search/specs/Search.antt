@@ -1,6 +1,6 @@
 -- The answer of `search` for every input: a refusal with zeros, or the verdict of the walk.
 -- Assumes nothing.
-use mathlib.Core.Bool.{_&&_, cond}
+use mathlib.Core.Bool.{Bool, _&&_, cond}
 use Prim.Native.Nat.{ℕ}
 use lib.Dec.{leb, eqb}
 use Rattle.curve.specs.declared.Rect.{Rect}
@@ -10,13 +10,17 @@ use Rattle.curve.specs.Refusals.{_orElse_, unless, curveRefusal}
 use Rattle.search.specs.declared.SearchAnswer.{SearchAnswer}
 use Rattle.search.specs.declared.Verdict.the-variants.{Refused, Inside}
 use Rattle.search.specs.Limits.{maxDepth, maxBudget}
+use Rattle.search.specs.Verdict.{reported, inside}
 use Rattle.search.specs.Box.{isBox}
 use Rattle.search.specs.Walk.{walked}
 
--- 7: the box; 8: the depth limit; 9: the budget
+-- 8: the depth limit; 9: the budget
+unfoldable pub effortRefusal : ℕ → ℕ → Refusal
+effortRefusal depth budget = unless (leb depth maxDepth) 8 orElse unless (leb 1 budget && leb budget maxBudget) 9
+
+-- 7: the box; then 8 and 9
 unfoldable pub boxRefusal : Rect → ℕ → ℕ → Refusal
-boxRefusal box depth budget =
-    unless (isBox box) 7 orElse unless (leb depth maxDepth) 8 orElse unless (leb 1 budget && leb budget maxBudget) 9
+boxRefusal box depth budget = unless (isBox box) 7 orElse effortRefusal depth budget
 
 -- refusals 1 to 3, then 7 to 9
 unfoldable pub searchRefusal : Curve → Rect → ℕ → ℕ → Refusal
@@ -28,3 +32,7 @@ searched c box depth budget =
     let r = searchRefusal c box depth budget in
     let verdict = walked box budget depth c 0 0 (Inside 0) in
     cond (eqb (r .number) 0) (record { refusal = r; verdict = verdict }) (record { refusal = r; verdict = Refused })
+
+-- the walk ends Inside; a refused one does not
+unfoldable pub endsInside : Curve → Rect → ℕ → ℕ → Bool
+endsInside c box depth budget = eqb (reported (searched c box depth budget .verdict) .number) inside

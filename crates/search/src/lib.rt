@@ -1,7 +1,7 @@
 // The walk over a box: whether every load of a curve lies in the box, found by cutting the curve into pieces. The box is called `limits`; its low sides lie inside it, its high sides outside.
 // The call takes any record and any numbers, answers a refusal for bad input, and equals its definition in specs/Search.antt.
 ghost use mathlib.Core.Path.{_≡_};
-ghost use Rattle.search.specs.Search.{boxRefusal, searchRefusal, searched};
+ghost use Rattle.search.specs.Search.{effortRefusal, boxRefusal, searchRefusal, searched};
 ghost use Rattle.search.specs.Walk.{walked};
 ghost use Rattle.search.specs.Inner.{Due};
 use curve::Curve;
@@ -13,15 +13,23 @@ use curve::is_from_one_to;
 use curve::refused_unless;
 
 mod boxes;
+mod inside;
 mod step;
 mod verdicts;
 
-use boxes::is_box;
 use step::Step;
 use step::step_at;
 use verdicts::count_of;
 use verdicts::looked;
 use verdicts::noted;
+
+// How a span lies to a box, and the check of a box by itself.
+pub use boxes::apart_from;
+pub use boxes::in_box;
+pub use boxes::is_box;
+
+// Whether a walk ends Inside, without the rest of its verdict.
+pub use inside::ends_inside;
 
 // The largest depth limit.
 pub const MAX_DEPTH: u32 = 12;
@@ -44,14 +52,23 @@ pub struct SearchAnswer {
     pub verdict: Verdict,
 }
 
+// Refusals 8 and 9.
+pub fn effort_refusal(depth: u32, budget: u32) -> Refusal
+    ensures { λ r. ⌜ r ≡ effortRefusal depth budget ⌝ }
+{
+    let first = refused_unless(depth <= MAX_DEPTH, 8, 0);
+    let second = refused_unless(is_from_one_to(budget, MAX_BUDGET), 9, 0);
+    first_of(first, second)
+}
+
 // Refusals 7 to 9.
 fn box_refusal(limits: Rect, depth: u32, budget: u32) -> Refusal
     ensures { λ r. ⌜ r ≡ boxRefusal limits depth budget ⌝ }
 {
-    let first = refused_unless(is_box(limits), 7, 0);
-    let second = refused_unless(depth <= MAX_DEPTH, 8, 0);
-    let third = refused_unless(is_from_one_to(budget, MAX_BUDGET), 9, 0);
-    first_of(first, first_of(second, third))
+    first_of(
+        refused_unless(is_box(limits), 7, 0),
+        effort_refusal(depth, budget),
+    )
 }
 
 // Refusals 1 to 3, then 7 to 9.
