@@ -65,13 +65,15 @@ const NOT_REFUSED: Refusal = Refusal {
     place: 0,
 };
 
-// The values from low to high, in steps, both ends included.
+// The values from low to high, in steps, both ends included. It lies in memory as C lays it out, and so does a rectangle: callers in C lend records that hold one.
+#[repr(C)]
 pub struct Interval {
     pub low: i32,
     pub high: i32,
 }
 
 // A rectangle of loads.
+#[repr(C)]
 pub struct Rect {
     pub resistance: Interval,
     pub reactance: Interval,

@@ -1,0 +1,262 @@
+-- What holds while a list is gone through: of the records before the one that is due every box is good, and of those tried none fits; once none is due, the answer is the definition's.
+-- Each record brings the call nearer to its end.
+-- Assumes nothing.
+use mathlib.Core.Path.{_≡_, refl, sym, ap, _∙_, subst}
+use mathlib.Core.Bool.{Bool, true, false, _&&_, cond}
+use mathlib.Core.List.{List, [], _∷_}
+use Prim.Native.Nat.{ℕ, zero, suc, _+_, _-_, _≤_, _<_}
+use native.Mathlib.Nat.{not-suc-le-zero, le-of-suc-le-suc}
+use native.Mathlib.Numerals.{add-one}
+use native.Mathlib.Omega.{arith}
+use borrow.Author.Tests.{ltb-true, ltb-false, eq-eqb, ne-eqb}
+use lib.Dec.{T, leb, ltb, eqb, leb→le}
+use lib.ListN.{length, getD, drop}
+use lib.Seq.{drop-cons, drop-length}
+use Rattle.curve.specs.declared.Rect.{Rect}
+use Rattle.curve.specs.declared.Curve.{Curve}
+use Rattle.curve.specs.declared.Refusal.{Refusal}
+use Rattle.curve.specs.Refusals.{none, refusal, _orElse_, unlessAt, curveRefusal}
+use Rattle.curve.specs.Calls.{bounded}
+use Rattle.curve.proofs.Refused.{by-number, or-assoc, or-first}
+use Rattle.curve.proofs.Tests.{true-of, both, join, or-split, or-none, unless-holds}
+use Rattle.curve.proofs.Accepted.{number-accepted}
+use Rattle.search.specs.Box.{isBox}
+use Rattle.search.specs.Search.{effortRefusal, searchRefusal}
+use Rattle.search.proofs.Accepted.{effort-holds, effort-settled, facts-none}
+use Rattle.settings.specs.declared.Setting.{Setting}
+use Rattle.settings.specs.declared.Choice.{Choice}
+use Rattle.settings.specs.declared.Choice.the-variants.{Refused, Fits, NoneFits}
+use Rattle.settings.specs.declared.ChoiceAnswer.{ChoiceAnswer}
+use Rattle.settings.specs.declared.Progress.{Progress}
+use Rattle.settings.specs.Limits.{maxSettings}
+use Rattle.settings.specs.Settings.{listRefusal, boxesRefusal, settingsRefusal, fits, firstOf, chosen}
+use Rattle.settings.specs.Inner.{answer, dueAt, ended, startedUnless, begun, checked, tried, next, DueNow}
+use Rattle.settings.proofs.Steps.{checked-bad, checked-next, checked-last, tried-fits, tried-next, tried-last}
+use Rattle.settings.proofs.Answers.{chosen-accepted, chosen-refused}
+
+-- by a test's value
+by-test : {P : Type 0} (b : Bool) → (b ≡ true → P) → (b ≡ false → P) → P
+by-test {P} true holds fails = holds refl
+by-test {P} false holds fails = fails refl
+
+-- a length that is not refused
+pub list-holds : (count : ℕ) → listRefusal count .number ≡ 0 → (listRefusal count ≡ none) × (1 ≤ count) × (count ≤ maxSettings)
+unfolding listRefusal
+list-holds count h = let (low, high) = both (leb 1 count) (leb count maxSettings) (unless-holds (leb 1 count && leb count maxSettings) 15 count h) in
+    (ap (λ (b : Bool). unlessAt b 16 count) (true-of (leb 1 count && leb count maxSettings) (join (leb 1 count) (leb count maxSettings) low high)), leb→le 1 count low, leb→le count maxSettings high)
+
+-- where no box is refused each record has a good one
+by-box : (b : Bool) (index : ℕ) (later : Refusal) → cond b later (refusal 7 index) .number ≡ 0 → T b × (later .number ≡ 0)
+by-box true index later h = (tt, h)
+by-box false index later h = let no : refusal 7 index .number ≡ 0 = h in absurd (omega arith)
+
+pub boxes-good : (index : ℕ) (ss : List Setting) → boxesRefusal index ss .number ≡ 0 → (d : Setting) (k : ℕ) → k < length ss → T (isBox (getD ss k d .limits))
+unfolding boxesRefusal
+boxes-good index [] h d k l = absurd (not-suc-le-zero l)
+boxes-good index (s ∷ rest) h d zero l = by-box (isBox (s .limits)) index _ h .0
+boxes-good index (s ∷ rest) h d (suc k) l = boxes-good (suc index) rest (by-box (isBox (s .limits)) index _ h .1) d k (le-of-suc-le-suc l)
+
+module _ (c : Curve) (ss : List Setting) (depth budget : ℕ) where
+  abbrev count : ℕ
+  count = length ss
+
+  -- refusals 16 and 1 to 3
+  abbrev first : Refusal
+  first = listRefusal count orElse curveRefusal c
+
+  abbrev test : Setting → Bool
+  test = fits c depth budget
+
+  -- how many records are still to be looked at, those to be checked and those to be tried counted apart
+  abbrev pub left : Progress → ℕ
+  left p = cond (p .due) (cond (p .trying) (count - p .at) (count + (count - p .at))) 0
+
+  -- the curve's span
+  abbrev span : Rect
+  span = bounded c .rect
+
+  -- the record at an index is due
+  pub record Due (trying : Bool) (at : ℕ) : Type 0 where
+    pub within : at < count
+    pub few : count ≤ maxSettings
+    pub accepted : first ≡ none
+    pub checking : trying ≡ false → boxesRefusal 0 ss ≡ boxesRefusal at (drop at ss)
+    pub fitting : trying ≡ true → (settingsRefusal c ss depth budget ≡ none) × (firstOf test 0 ss ≡ firstOf test at (drop at ss))
+
+  pub record Going (p : Progress) : Type 0 where
+    pub due : p .due ≡ true → Due (p .trying) (p .at)
+    pub spanned : p .due ≡ true → p .span ≡ span
+    pub ended : p .due ≡ false → p .answer ≡ chosen c ss depth budget
+
+  going-due : (trying : Bool) (at : ℕ) → Due trying at → Going (dueAt span trying at)
+  going-due trying at d = record { due = λ _. d; spanned = λ _. refl; ended = λ e. absurd (subst T e tt) }
+
+  going-ended : (a : ChoiceAnswer) → a ≡ chosen c ss depth budget → Going (ended a)
+  going-ended a h = record { due = λ e. absurd (subst T (sym e) tt); spanned = λ e. absurd (subst T (sym e) tt); ended = λ _. h }
+
+  -- ---- the refusal, once some of its parts are known
+
+  refused-first : eqb (first .number) 0 ≡ false → settingsRefusal c ss depth budget ≡ first
+  unfolding settingsRefusal
+  refused-first e = sym (or-assoc (listRefusal count) (curveRefusal c) _) ∙ ap (λ (b : Bool). cond b (boxesRefusal 0 ss orElse effortRefusal depth budget) first) e
+
+  past-first : first ≡ none → settingsRefusal c ss depth budget ≡ (boxesRefusal 0 ss orElse effortRefusal depth budget)
+  unfolding settingsRefusal
+  past-first h = sym (or-assoc (listRefusal count) (curveRefusal c) _) ∙ or-none first _ h
+
+  -- a call refused with r
+  refused-with : (r : Refusal) → settingsRefusal c ss depth budget ≡ r → eqb (r .number) 0 ≡ false → answer Refused r ≡ chosen c ss depth budget
+  refused-with r e h =
+      ap (answer Refused) (sym e) ∙ sym (chosen-refused c ss depth budget (ap (λ (x : Refusal). eqb (x .number) 0) e ∙ h))
+
+  started-by : (P : Progress → Type 0) (trying : Bool) (r : Refusal) → (r .number ≡ 0 → P (dueAt span trying 0)) → (eqb (r .number) 0 ≡ false → P (ended (answer Refused r))) → P (startedUnless span trying r)
+  started-by P trying r passed refused =
+      by-number (r .number)
+      (λ z. subst (λ (b : Bool). P (cond b (dueAt span trying 0) (ended (answer Refused r)))) (sym (eq-eqb (r .number) 0 z)) (passed z))
+      (λ e. subst (λ (b : Bool). P (cond b (dueAt span trying 0) (ended (answer Refused r)))) (sym e) (refused e))
+
+  pub begun-going : Going (begun c count)
+  unfolding begun
+  begun-going = started-by Going false first started (λ e. going-ended _ (refused-with first (refused-first e) e))
+    where
+      started : first .number ≡ 0 → Going (dueAt span false 0)
+      started z =
+          let (list-zero, curve-zero) = or-split (listRefusal count) (curveRefusal c) z in
+          let (list-none, some, few) = list-holds count list-zero in
+          going-due false 0 (record {
+            within = some;
+            few = few;
+            accepted = or-none (listRefusal count) (curveRefusal c) list-none ∙ number-accepted c curve-zero;
+            checking = λ _. refl;
+            fitting = λ e. absurd (subst T (sym e) tt);
+          })
+
+  -- ---- after the record that was due
+
+  pub record After (before : ℕ) (p : Progress) : Type 0 where
+    pub going : Going p
+    pub fewer : left p < before
+
+  module _ (d : Setting) (at : ℕ) where
+    abbrev s : Setting
+    s = getD ss at d
+
+    -- what is left of the list, and what of it is left after the last record
+    rest : at < count → drop at ss ≡ s ∷ drop (at + 1) ss
+    rest l = drop-cons ss at d l ∙ ap (λ (k : ℕ). s ∷ drop k ss) (sym (add-one at))
+
+    nothing-left : at < count → ltb (at + 1) count ≡ false → drop (at + 1) ss ≡ []
+    nothing-left l e = let last : at + 1 ≡ count = omega (arith, ltb-false (at + 1) count e) in ap (λ (k : ℕ). drop k ss) last ∙ drop-length ss
+
+    boxes-here : Due false at → boxesRefusal 0 ss ≡ cond (isBox (s .limits)) (boxesRefusal (at + 1) (drop (at + 1) ss)) (refusal 7 at)
+    unfolding boxesRefusal
+    boxes-here u = u .checking refl ∙ ap (boxesRefusal at) (rest (u .within)) ∙ ap (λ (k : ℕ). cond (isBox (s .limits)) (boxesRefusal k (drop (at + 1) ss)) (refusal 7 at)) (sym (add-one at))
+
+    first-here : Due true at → firstOf test 0 ss ≡ cond (test s) (Fits at (s .number)) (firstOf test (at + 1) (drop (at + 1) ss))
+    unfolding firstOf
+    first-here u = u .fitting refl .1 ∙ ap (firstOf test at) (rest (u .within)) ∙ ap (λ (k : ℕ). cond (test s) (Fits at (s .number)) (firstOf test k (drop (at + 1) ss))) (sym (add-one at))
+
+    -- a check: the box is bad, or the next record is due, or it was the last one
+    checked-after : Due false at → After (count + (count - at)) (checked span count depth budget at s)
+    unfolding boxesRefusal
+    checked-after u = by-test (isBox (s .limits)) (λ good. by-test (ltb (at + 1) count) (onward good) (begin good)) bad
+      where
+        within : at < count
+        within = u .within
+
+        bad : isBox (s .limits) ≡ false → After (count + (count - at)) (checked span count depth budget at s)
+        bad h =
+            let boxes : boxesRefusal 0 ss ≡ refusal 7 at = boxes-here u ∙ ap (λ (b : Bool). cond b (boxesRefusal (at + 1) (drop (at + 1) ss)) (refusal 7 at)) h in
+            subst (After (count + (count - at))) (sym (checked-bad span count depth budget at s h)) (record {
+              going = going-ended _ (refused-with (refusal 7 at) (past-first (u .accepted) ∙ ap (λ (r : Refusal). r orElse effortRefusal depth budget) boxes) refl);
+              fewer = omega (arith, within);
+            })
+
+        good-here : isBox (s .limits) ≡ true → boxesRefusal 0 ss ≡ boxesRefusal (at + 1) (drop (at + 1) ss)
+        good-here h = boxes-here u ∙ ap (λ (b : Bool). cond b (boxesRefusal (at + 1) (drop (at + 1) ss)) (refusal 7 at)) h
+
+        onward : isBox (s .limits) ≡ true → ltb (at + 1) count ≡ true → After (count + (count - at)) (checked span count depth budget at s)
+        onward h l =
+            let more : at + 1 < count = ltb-true (at + 1) count l in
+            subst (After (count + (count - at))) (sym (checked-next span count depth budget at s h l)) (record {
+              going = going-due false (at + 1) (record { within = more; few = u .few; accepted = u .accepted; checking = λ _. good-here h; fitting = λ e. absurd (subst T (sym e) tt) });
+              fewer = omega (arith, within);
+            })
+
+        -- every box is good: 8 and 9 are left
+        begin : isBox (s .limits) ≡ true → ltb (at + 1) count ≡ false → After (count + (count - at)) (checked span count depth budget at s)
+        begin h l =
+            let boxes : boxesRefusal 0 ss ≡ none = good-here h ∙ ap (boxesRefusal (at + 1)) (nothing-left within l) in
+            let all : settingsRefusal c ss depth budget ≡ effortRefusal depth budget = past-first (u .accepted) ∙ or-none (boxesRefusal 0 ss) (effortRefusal depth budget) boxes in
+            subst (After (count + (count - at))) (sym (checked-last span count depth budget at s h l))
+            (started-by (After (count + (count - at))) true (effortRefusal depth budget)
+            (λ z. record {
+              going = going-due true 0 (record { within = omega (arith, within); few = u .few; accepted = u .accepted; checking = λ e. absurd (subst T e tt); fitting = λ _. (all ∙ effort-settled depth budget z, refl) });
+              fewer = omega (arith, within);
+            })
+            (λ e. record { going = going-ended _ (refused-with (effortRefusal depth budget) all e); fewer = omega (arith, within) }))
+
+    -- a walk: the record is chosen, or the next one is due, or none fits
+    tried-after : Due true at → After (count - at) (tried c span count depth budget at s)
+    unfolding firstOf
+    tried-after u = by-test (test s) chosen-here (λ e. by-test (ltb (at + 1) count) (onward e) (none-fits e))
+      where
+        within : at < count
+        within = u .within
+
+        first-by : (b : Bool) → test s ≡ b → firstOf test 0 ss ≡ cond b (Fits at (s .number)) (firstOf test (at + 1) (drop (at + 1) ss))
+        first-by b e = first-here u ∙ ap (λ (x : Bool). cond x (Fits at (s .number)) (firstOf test (at + 1) (drop (at + 1) ss))) e
+
+        ended-with : (choice : Choice) → firstOf test 0 ss ≡ choice → Going (ended (answer choice none))
+        ended-with choice e = going-ended _ (sym (chosen-accepted c ss depth budget (u .fitting refl .0) ∙ ap (λ (x : Choice). answer x none) e))
+
+        chosen-here : test s ≡ true → After (count - at) (tried c span count depth budget at s)
+        chosen-here e =
+            subst (After (count - at)) (sym (tried-fits c span count depth budget at s e)) (record { going = ended-with _ (first-by true e); fewer = omega (arith, within) })
+
+        onward : test s ≡ false → ltb (at + 1) count ≡ true → After (count - at) (tried c span count depth budget at s)
+        onward e l =
+            let more : at + 1 < count = ltb-true (at + 1) count l in
+            subst (After (count - at)) (sym (tried-next c span count depth budget at s e l)) (record {
+              going = going-due true (at + 1) (record { within = more; few = u .few; accepted = u .accepted; checking = λ x. absurd (subst T x tt); fitting = λ _. (u .fitting refl .0, first-by false e) });
+              fewer = omega (arith, within);
+            })
+
+        none-fits : test s ≡ false → ltb (at + 1) count ≡ false → After (count - at) (tried c span count depth budget at s)
+        none-fits e l =
+            subst (After (count - at)) (sym (tried-last c span count depth budget at s e l))
+            (record { going = ended-with NoneFits (first-by false e ∙ ap (firstOf test (at + 1)) (nothing-left within l)); fewer = omega (arith, within) })
+
+  pub next-after : (d : Setting) (p : Progress) → Going p → p .due ≡ true → After (left p) (next c count depth budget p (getD ss (p .at) d))
+  unfolding next
+  next-after d p g e = rw (e, g .spanned e) (by-test (p .trying) try check)
+    where
+      s : Setting
+      s = getD ss (p .at) d
+
+      u : Due (p .trying) (p .at)
+      u = g .due e
+
+      try : p .trying ≡ true → After (cond (p .trying) (count - p .at) (count + (count - p .at))) (cond (p .trying) (tried c span count depth budget (p .at) s) (checked span count depth budget (p .at) s))
+      try h = rw h (tried-after d (p .at) (subst (λ (b : Bool). Due b (p .at)) h u))
+
+      check : p .trying ≡ false → After (cond (p .trying) (count - p .at) (count + (count - p .at))) (cond (p .trying) (tried c span count depth budget (p .at) s) (checked span count depth budget (p .at) s))
+      check h = rw h (checked-after d (p .at) (subst (λ (b : Bool). Due b (p .at)) h u))
+
+  -- ---- what is asked of the record that is due
+
+  -- of a list that is not refused no walk would be
+  pub walk-accepted : settingsRefusal c ss depth budget ≡ none → (d : Setting) (k : ℕ) → k < count → searchRefusal c (getD ss k d .limits) depth budget ≡ none
+  unfolding settingsRefusal
+  walk-accepted h d k l =
+      let (list-zero, past-list) = or-split (listRefusal count) _ (ap (λ (r : Refusal). r .number) h) in
+      let (curve-zero, past-curve) = or-split (curveRefusal c) _ past-list in
+      let (boxes-zero, effort-zero) = or-split (boxesRefusal 0 ss) _ past-curve in
+      let (shallow, some, few) = effort-holds depth budget effort-zero in
+      facts-none c (getD ss k d .limits) depth budget
+      (record { accepted = number-accepted c curve-zero; sides = boxes-good 0 ss boxes-zero d k l; shallow = shallow; some = some; few = few })
+
+  pub due-now : (d : Setting) (p : Progress) → Going p → p .due ≡ true → DueNow c depth budget p (getD ss (p .at) d)
+  due-now d p g e =
+      let u = g .due e in
+      record { within = omega (arith, u .within, u .few); ready = λ h. record { spanned = g .spanned e; accepted = walk-accepted (u .fitting h .0) d (p .at) (u .within) } }

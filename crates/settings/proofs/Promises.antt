@@ -1,0 +1,129 @@
+-- The promises: what is chosen is the first record that fits, it is safe to hold, and nothing behind it is read.
+-- Assumes nothing.
+use mathlib.Core.Path.{_≡_, refl, sym, ap, ap₂, _∙_, subst}
+use mathlib.Core.Bool.{Bool, true, false, cond}
+use mathlib.Core.List.{List, [], _∷_, _++_}
+use Prim.Native.Nat.{ℕ, suc, _<_}
+use native.Mathlib.Nat.{zero-add}
+use native.Mathlib.Omega.{arith}
+use borrow.Author.Tests.{eqb-true, eq-eqb, ne-eqb}
+use lib.Dec.{T, eqb}
+use lib.ListN.{length}
+use Rattle.curve.specs.declared.Curve.{Curve}
+use Rattle.curve.specs.declared.Refusal.{Refusal}
+use Rattle.curve.specs.Curve.{SameCurve}
+use Rattle.curve.specs.Refusals.{none, refusal, _orElse_, curveRefusal}
+use Rattle.curve.proofs.Refused.{by-number}
+use Rattle.curve.proofs.Tests.{or-split, or-none}
+use Rattle.curve.proofs.Accepted.{number-accepted}
+use Rattle.search.specs.declared.SearchAnswer.{SearchAnswer}
+use Rattle.search.specs.Verdict.{inside}
+use Rattle.search.specs.Verdict as Verdict
+use Rattle.search.specs.Box.{isBox}
+use Rattle.search.specs.Search.{effortRefusal, searched, endsInside}
+use Rattle.search.proofs.Accepted.{effort-settled}
+use Rattle.search.proofs.Meaning as Meaning
+use Rattle.search.proofs.PastUnread as Walks
+use Rattle.settings.specs.declared.Setting.{Setting}
+use Rattle.settings.specs.declared.Choice.{Choice}
+use Rattle.settings.specs.declared.Choice.the-variants.{Refused}
+use Rattle.settings.specs.declared.ChoiceAnswer.{ChoiceAnswer}
+use Rattle.settings.specs.Choice.{Report, reported, fitting, noneFitting}
+use Rattle.settings.specs.Settings.{listRefusal, boxesRefusal, settingsRefusal, fits, firstOf, chosen}
+use Rattle.settings.specs.Inner.{answer}
+use Rattle.settings.specs.Promises.{recordAt, EndsInside, FirstFitting, First, NoneExactly, SafeToHold, LaterUnread, PastUnread}
+use Rattle.settings.proofs.Answers.{chosen-accepted, chosen-refused, chosen-refusal}
+use Rattle.settings.proofs.Going.{list-holds}
+use Rattle.settings.proofs.Searching.{Found, found, none-found, nothing-found, same-found}
+use Rattle.settings.proofs.Searching as Searching
+
+-- ---- a call that is not refused
+
+by-box : (b : Bool) (index : ℕ) (later : Refusal) → (later .number ≡ 0 → later ≡ none) → cond b later (refusal 7 index) .number ≡ 0 → cond b later (refusal 7 index) ≡ none
+by-box true index later settled h = settled h
+by-box false index later settled h = let no : refusal 7 index .number ≡ 0 = h in absurd (omega arith)
+
+boxes-settled : (index : ℕ) (ss : List Setting) → boxesRefusal index ss .number ≡ 0 → boxesRefusal index ss ≡ none
+unfolding boxesRefusal
+boxes-settled index [] h = refl
+boxes-settled index (s ∷ rest) h = by-box (isBox (s .limits)) index (boxesRefusal (suc index) rest) (boxes-settled (suc index) rest) h
+
+module _ (c : Curve) (ss : List Setting) (depth budget : ℕ) where
+  settings-settled : settingsRefusal c ss depth budget .number ≡ 0 → settingsRefusal c ss depth budget ≡ none
+  unfolding settingsRefusal
+  settings-settled h =
+      let (list-zero, past-list) = or-split (listRefusal (length ss)) _ h in
+      let (curve-zero, past-curve) = or-split (curveRefusal c) _ past-list in
+      let (boxes-zero, effort-zero) = or-split (boxesRefusal 0 ss) _ past-curve in
+      or-none (listRefusal (length ss)) _ (list-holds (length ss) list-zero .0) ∙ or-none (curveRefusal c) _ (number-accepted c curve-zero)
+      ∙ or-none (boxesRefusal 0 ss) _ (boxes-settled 0 ss boxes-zero) ∙ effort-settled depth budget effort-zero
+
+  -- the choice is that of a refused call, or of the search over an accepted list
+  by-choice : (P : Choice → Type 0) → P Refused → (settingsRefusal c ss depth budget ≡ none → P (firstOf (fits c depth budget) 0 ss)) → P (chosen c ss depth budget .choice)
+  by-choice P refused accepted =
+      by-number (settingsRefusal c ss depth budget .number)
+      (λ h. let e = settings-settled h in subst (λ (a : ChoiceAnswer). P (a .choice)) (sym (chosen-accepted c ss depth budget e)) (accepted e))
+      (λ e. subst (λ (a : ChoiceAnswer). P (a .choice)) (sym (chosen-refused c ss depth budget e)) refused)
+
+  -- an answer that a record fits is of an accepted list
+  fitting-accepted : reported (chosen c ss depth budget .choice) .number ≡ fitting → settingsRefusal c ss depth budget ≡ none
+  fitting-accepted = by-choice (λ x. reported x .number ≡ fitting → settingsRefusal c ss depth budget ≡ none) (λ h. let no : reported Refused .number ≡ fitting = h in absurd (omega arith)) (λ e h. e)
+
+  -- ---- a record that fits
+
+  fits-inside : (s : Setting) → fits c depth budget s ≡ true → EndsInside c s depth budget
+  unfolding fits endsInside
+  fits-inside s h = eqb-true _ inside h
+
+  inside-fits : (s : Setting) → EndsInside c s depth budget → fits c depth budget s ≡ true
+  unfolding fits endsInside
+  inside-fits s h = eq-eqb _ inside h
+
+  outside-unfit : (s : Setting) → fits c depth budget s ≡ false → EndsInside c s depth budget → ⊥
+  outside-unfit s h i = subst T (sym (inside-fits s i) ∙ h) tt
+
+  unfit : (s : Setting) → (EndsInside c s depth budget → ⊥) → fits c depth budget s ≡ false
+  unfolding fits endsInside
+  unfit s h = ne-eqb _ inside h
+
+pub first : First
+first c ss depth budget =
+    by-choice c ss depth budget
+    (λ x. reported x .number ≡ fitting → FirstFitting c ss depth budget (reported x .index) (reported x .setting))
+    (λ h. let no : reported Refused .number ≡ fitting = h in absurd (omega arith))
+    (λ e h. found-first (found (fits c depth budget) 0 ss h))
+  where
+    found-first : {r : Report} → Found (fits c depth budget) 0 ss r → FirstFitting c ss depth budget (r .index) (r .setting)
+    found-first {r} f =
+        let index : r .index ≡ f .offset = f .placed ∙ zero-add (f .offset) in
+        subst (λ (k : ℕ). FirstFitting c ss depth budget k (r .setting)) (sym index) (record {
+          listed = f .listed;
+          numbered = f .numbered;
+          inside = fits-inside c ss depth budget (recordAt ss (f .offset)) (f .holds);
+          first = λ k l. outside-unfit c ss depth budget (recordAt ss k) (f .first k l);
+        })
+
+pub none-exactly : NoneExactly
+none-exactly c ss depth budget h =
+    let accepted = sym (chosen-refusal c ss depth budget) ∙ h in
+    let search : chosen c ss depth budget .choice ≡ firstOf (fits c depth budget) 0 ss = ap (λ (a : ChoiceAnswer). a .choice) (chosen-accepted c ss depth budget accepted) in (
+      (λ n k l. outside-unfit c ss depth budget (recordAt ss k) (none-found (fits c depth budget) 0 ss (ap (λ (x : Choice). reported x .number) (sym search) ∙ n) k l)),
+      (λ none-inside. ap (λ (x : Choice). reported x .number) (search ∙ nothing-found (fits c depth budget) 0 ss (λ k l. unfit c ss depth budget (recordAt ss k) (none-inside k l)))),
+    )
+
+pub safe-to-hold : SafeToHold
+safe-to-hold c ss depth budget h = Meaning.inside-means c _ depth budget (first c ss depth budget h .inside)
+
+pub later-unread : LaterUnread
+later-unread c ss more depth budget h longer =
+    let accepted = fitting-accepted c ss depth budget h in
+    let number : reported (firstOf (fits c depth budget) 0 ss) .number ≡ fitting = ap (λ (a : ChoiceAnswer). reported (a .choice) .number) (sym (chosen-accepted c ss depth budget accepted)) ∙ h in
+    chosen-accepted c (ss ++ more) depth budget (sym (chosen-refusal c (ss ++ more) depth budget) ∙ longer)
+    ∙ ap (λ (x : Choice). answer x none) (Searching.later-unread (fits c depth budget) 0 ss more number) ∙ sym (chosen-accepted c ss depth budget accepted)
+
+pub past-unread : PastUnread
+unfolding chosen settingsRefusal fits endsInside
+past-unread c e ss depth budget same =
+    ap₂ (λ (r : Refusal) (x : Choice). cond (eqb (r .number) 0) (answer x r) (answer Refused r))
+    (ap (λ (r : Refusal). listRefusal (length ss) orElse r orElse boxesRefusal 0 ss orElse effortRefusal depth budget) (Walks.same-curve-refusal c e same))
+    (same-found _ _ (λ s. ap (λ (a : SearchAnswer). eqb (Verdict.reported (a .verdict) .number) inside) (Walks.past-unread c e (s .limits) depth budget same)) 0 ss)

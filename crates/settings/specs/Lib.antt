@@ -1,0 +1,5 @@
+pub mod Limits
+pub mod Choice
+pub mod Settings
+pub mod Inner
+pub mod Promises
