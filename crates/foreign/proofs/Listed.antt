@@ -2,7 +2,7 @@
 -- Assumes nothing.
 use mathlib.Core.Path.{_≡_, refl}
 use mathlib.Core.Bool.{Bool, true, false, cond, _&&_}
-use mathlib.Core.List.{List}
+use mathlib.Core.List.{List, [], _∷_}
 use Prim.Native.Nat.{ℕ, zero, suc, _+_, _<_}
 use native.Mathlib.Omega.{arith}
 use lib.Dec.{leb, eqb, ltb}
@@ -30,8 +30,12 @@ use Rattle.search.specs.declared.Verdict.the-variants.{Refused, Inside}
 use Rattle.search.specs.Limits.{maxDepth, maxBudget}
 use Rattle.search.specs.Box.{isBox}
 use Rattle.search.specs.Walk.{walked}
-use Rattle.search.specs.Search.{boxRefusal, searchRefusal, searched}
+use Rattle.search.specs.Search.{effortRefusal, boxRefusal, searchRefusal, searched}
 use Rattle.search.proofs.Accepted.{answer}
+use Rattle.settings.specs.declared.Setting.{Setting}
+use Rattle.settings.specs.Limits.{maxSettings}
+use Rattle.settings.specs.Settings.{listRefusal, boxesRefusal, settingsRefusal}
+use Rattle.settings.proofs.Answers.{chosen-refusal}
 use Rattle.bridge.specs.declared.Measurement.{Measurement}
 use Rattle.bridge.specs.declared.Measurement.the-variants.{NoCarrier, Load, LoadWithSpread}
 use Rattle.bridge.specs.Value.{isLoad, isSpread}
@@ -45,10 +49,10 @@ use Rattle.foreign.specs.Promises.{Listed, ListedAnswers}
 listed-none : Listed none
 listed-none = record { known = omega arith; zero = λ e. refl }
 
-listed-some : (number place : ℕ) → number < 15 → Listed (refusal (suc number) place)
+listed-some : (number place : ℕ) → number < 16 → Listed (refusal (suc number) place)
 listed-some number place few = record { known = few; zero = λ e. absurd (omega arith) }
 
-unless : (ok : Bool) (number place : ℕ) → number < 15 → Listed (unlessAt ok (suc number) place)
+unless : (ok : Bool) (number place : ℕ) → number < 16 → Listed (unlessAt ok (suc number) place)
 unless true number place few = listed-none
 unless false number place few = listed-some number place few
 
@@ -60,7 +64,7 @@ infixr 4 _or_
 _or_ : {a b : Refusal} → Listed a → Listed b → Listed (a orElse b)
 _or_ {a} first second = either (eqb (a .number) 0) second first
 
-failing : (ok : ℕ → Bool) (number m from : ℕ) → number < 15 → Listed (firstFailing ok (suc number) m from)
+failing : (ok : ℕ → Bool) (number m from : ℕ) → number < 16 → Listed (firstFailing ok (suc number) m from)
 unfolding firstFailing
 failing ok number zero from few = listed-none
 failing ok number (suc m) from few = either (ok from) (failing ok number m (suc from) few) (listed-some number from few)
@@ -87,13 +91,26 @@ elevation-listed : (c : Curve) → Listed (elevationRefusal c)
 unfolding elevationRefusal highestRefusal
 elevation-listed c = curve-listed c or unless (ltb (c .degree) maxDegree) 5 0 (omega arith)
 
+effort-listed : (depth budget : ℕ) → Listed (effortRefusal depth budget)
+unfolding effortRefusal
+effort-listed depth budget = unless (leb depth maxDepth) 7 0 (omega arith) or unless (leb 1 budget && leb budget maxBudget) 8 0 (omega arith)
+
 search-listed : (c : Curve) (box : Rect) (depth budget : ℕ) → Listed (searchRefusal c box depth budget)
 unfolding searchRefusal boxRefusal
-search-listed c box depth budget =
-    curve-listed c
-    or unless (isBox box) 6 0 (omega arith)
-    or unless (leb depth maxDepth) 7 0 (omega arith)
-    or unless (leb 1 budget && leb budget maxBudget) 8 0 (omega arith)
+search-listed c box depth budget = curve-listed c or unless (isBox box) 6 0 (omega arith) or effort-listed depth budget
+
+boxes-listed : (index : ℕ) (settings : List Setting) → Listed (boxesRefusal index settings)
+unfolding boxesRefusal
+boxes-listed index [] = listed-none
+boxes-listed index (s ∷ rest) = either (isBox (s .limits)) (boxes-listed (suc index) rest) (listed-some 6 index (omega arith))
+
+settings-listed : (c : Curve) (settings : List Setting) (depth budget : ℕ) → Listed (settingsRefusal c settings depth budget)
+unfolding settingsRefusal listRefusal
+settings-listed c settings depth budget =
+    unless (leb 1 (length settings) && leb (length settings) maxSettings) 15 (length settings) (omega arith)
+    or curve-listed c
+    or boxes-listed 0 settings
+    or effort-listed depth budget
 
 bridge-listed : (m : Measurement) → Listed (enclosed m .refusal)
 unfolding enclosed loadRefusal spreadRefusal numberRefusal sideRefusal
@@ -168,6 +185,7 @@ listed-answers =
       elevating = λ c. rw (elevated-refusal c) (elevation-listed c);
       bounding = λ c. rw (bounded-refusal c) (curve-listed c);
       searching = λ c box depth budget. rw (searched-refusal c box depth budget) (search-listed c box depth budget);
+      choosing = λ c settings depth budget. rw (chosen-refusal c settings depth budget) (settings-listed c settings depth budget);
       enclosing = bridge-listed;
       reading = λ card. rw (read-refusal card) (card-listed card);
       writing = λ c out. rw (written-refusal c out) (writing-listed c (length out));

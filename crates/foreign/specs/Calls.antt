@@ -11,9 +11,10 @@ use Rattle.curve.specs.declared.Enclosure.{Enclosure}
 use Rattle.card_text.specs.declared.CardRead.{CardRead}
 use Rattle.card_text.specs.Card.{sides}
 use Rattle.search.specs.declared.SearchAnswer.{SearchAnswer}
+use Rattle.settings.specs.declared.ChoiceAnswer.{ChoiceAnswer}
 use Rattle.bridge.specs.declared.BridgeAnswer.{BridgeAnswer}
 use Rattle.bridge.specs.Bridge.{reported}
-use Rattle.foreign.specs.Numbers.{curveNumbers, ohmNumbers, flagNumber, verdictNumbers, foundNumbers}
+use Rattle.foreign.specs.Numbers.{curveNumbers, ohmNumbers, flagNumber, verdictNumbers, choiceNumbers, foundNumbers}
 use Rattle.foreign.specs.Answer.{Gives, GivesNumber, GivesBothNumber}
 
 -- the load, its ohms, and the exact flag
@@ -33,6 +34,9 @@ GivesEnclosure e = Gives (e .refusal) (sides (e .rect))
 
 abbrev pub GivesSearch : SearchAnswer → List ℕ → ℕ → List ℕ → Type 0
 GivesSearch a = Gives (a .refusal) (verdictNumbers (a .verdict))
+
+abbrev pub GivesChoice : ChoiceAnswer → List ℕ → ℕ → List ℕ → Type 0
+GivesChoice a = Gives (a .refusal) (choiceNumbers (a .choice))
 
 abbrev pub GivesCard : CardRead → List ℤ → ℕ → List ℤ → Type 0
 GivesCard r = Gives (r .refusal) (curveNumbers (r .curve))

@@ -14,6 +14,8 @@ use Rattle.curve.specs.Curve.{curveOf, point}
 use Rattle.card_text.specs.Card.{sides}
 use Rattle.search.specs.declared.Verdict.{Verdict}
 use Rattle.search.specs.Verdict.{Report, reported}
+use Rattle.settings.specs.declared.Choice.{Choice}
+use Rattle.settings.specs.Choice as choice
 use Rattle.bridge.specs.declared.Measurement.{Measurement}
 use Rattle.bridge.specs.declared.Measurement.the-variants.{NoCarrier, Load, LoadWithSpread}
 use Rattle.bridge.specs.declared.Found.{Found}
@@ -72,6 +74,10 @@ reportNumbers r = r .number ∷ r .depth ∷ r .index ∷ r .count ∷ []
 
 abbrev pub verdictNumbers : Verdict → List ℕ
 verdictNumbers v = reportNumbers (reported v)
+
+-- a choice: which of the two, the index of the record that fits, and its setting number
+abbrev pub choiceNumbers : Choice → List ℕ
+choiceNumbers x = choice.reported x .number ∷ choice.reported x .index ∷ choice.reported x .setting ∷ []
 
 -- what a measurement encloses: a rectangle's sides, or nothing
 abbrev pub foundNumbers : Found → List ℤ

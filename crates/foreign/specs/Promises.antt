@@ -13,6 +13,8 @@ use Rattle.sixteenths.specs.Sixteenths.{evaluatedSixteenths}
 use Rattle.card_text.specs.Reading.{readCard}
 use Rattle.card_text.specs.Writing.{writeCard}
 use Rattle.search.specs.Search.{searched}
+use Rattle.settings.specs.declared.Setting.{Setting}
+use Rattle.settings.specs.Settings.{chosen}
 use Rattle.bridge.specs.declared.Measurement.{Measurement}
 use Rattle.bridge.specs.Bridge.{enclosed}
 use Rattle.foreign.specs.Numbers.{curveNumbers}
@@ -28,9 +30,9 @@ Unpacked =
 abbrev pub CurveLength : Type 0
 CurveLength = (c : Curve) → length (curveNumbers c) ≡ 1 + 4 * (c .degree + 1)
 
--- a refusal with one of the listed numbers 1 to 15, or none
+-- a refusal with one of the listed numbers 1 to 16, or none
 pub record Listed (r : Refusal) : Type 0 where
-  pub known : r .number ≤ 15
+  pub known : r .number ≤ 16
   pub zero : r .number ≡ 0 → r ≡ none
 
 -- so is the refusal of every call within, and with that of a list that is too short behind it
@@ -41,6 +43,7 @@ pub record ListedAnswers : Type 0 where
   pub elevating : (c : Curve) → Listed (elevated c .refusal)
   pub bounding : (c : Curve) → Listed (bounded c .refusal)
   pub searching : (c : Curve) (box : Rect) (depth budget : ℕ) → Listed (searched c box depth budget .refusal)
+  pub choosing : (c : Curve) (settings : List Setting) (depth budget : ℕ) → Listed (chosen c settings depth budget .refusal)
   pub enclosing : (m : Measurement) → Listed (enclosed m .refusal)
   pub reading : (card : List ℕ) → Listed (readCard card .refusal)
   pub writing : (c : Curve) (out : List ℕ) → Listed (writeCard c out .refusal)

@@ -6,6 +6,7 @@ ghost use Rattle.sixteenths.specs.Sixteenths.{evaluatedSixteenths};
 ghost use Rattle.card_text.specs.Reading.{readCard};
 ghost use Rattle.card_text.specs.Writing.{writeCard, bytesAfter};
 ghost use Rattle.search.specs.Search.{searched};
+ghost use Rattle.settings.specs.Settings.{chosen};
 ghost use Rattle.bridge.specs.Bridge.{enclosed};
 ghost use Rattle.foreign.specs.Numbers.{rectAt, curveFrom, measurementFrom};
 ghost use Rattle.foreign.specs.Answer.{answerOf};
@@ -15,6 +16,7 @@ ghost use Rattle.foreign.specs.Calls.{
   GivesElevation,
   GivesEnclosure,
   GivesSearch,
+  GivesChoice,
   GivesFound,
   GivesCard,
 };
@@ -30,11 +32,13 @@ use given::curve_from;
 use given::measurement_from;
 use given::rect_at;
 use given::stored_curve_from;
+use results::CHOICE_LENGTH;
 use results::RECT_LENGTH;
 use results::VERDICT_LENGTH;
 use results::curve_length;
 use results::found_length;
 use results::found_number;
+use results::put_choice;
 use results::put_curve;
 use results::put_exact;
 use results::put_found;
@@ -42,6 +46,8 @@ use results::put_number;
 use results::put_ohms;
 use results::put_rect;
 use results::put_verdict;
+use settings::ChoiceAnswer;
+use settings::Setting;
 
 // Gives a reading's load, its ohms and its flag, and answers its refusal or 12. It returns at the first refusal, so that an accepted call works out no place.
 fn give_evaluation(answer: Evaluation, load: &mut [i32], ohms: &mut [f32], exact: &mut u32) -> u64
@@ -164,6 +170,33 @@ pub extern "C" fn jusqani_search(
     let found = answer.verdict;
     put_verdict(verdict, refusal, found);
     answer_of(refusal)
+}
+
+// Gives a choice, and answers its refusal or 12.
+fn give_choice(answer: ChoiceAnswer, choice: &mut [u32]) -> u64
+    ensures { λ r. ⌜ GivesChoice answer (now (choice .entry)) r (now (choice .exit)) ⌝ }
+{
+    let refusal = with_room(answer.refusal, CHOICE_LENGTH, choice.len());
+    let found = answer.choice;
+    put_choice(choice, refusal, found);
+    answer_of(refusal)
+}
+
+// The first record of a list of settings whose box the curve stays in; refusals 16, 1 to 3, 7 to 9 and 12. The list is lent as it is, so this call only hands it on.
+#[no_mangle]
+pub extern "C" fn jusqani_choose_setting(
+    degree: u32,
+    sides: &[i32],
+    settings: &[Setting],
+    depth: u32,
+    budget: u32,
+    choice: &mut [u32],
+) -> u64
+    ensures { λ r. ⌜ (GivesChoice (chosen (curveFrom degree (now (sides .entry))) (now (settings .entry)) depth budget) (now (choice .entry)) r (now (choice .exit))) × (now (settings .exit) ≡ now (settings .entry)) ⌝ }
+{
+    let curve = curve_from(degree, sides);
+    let answer = settings::choose_setting(curve, settings, depth, budget);
+    give_choice(answer, choice)
 }
 
 // The rectangle of whole steps that encloses what the bridge measured, and which of its forms was found; refusals 13, 14 and 12.

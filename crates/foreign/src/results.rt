@@ -7,7 +7,7 @@ ghost use lib.Seq.{sets};
 ghost use Rattle.curve.specs.Limits.{maxDegree};
 ghost use Rattle.card_text.specs.Card.{sides};
 ghost use Rattle.bridge.specs.Bridge.{reported};
-ghost use Rattle.foreign.specs.Numbers.{curveNumbers, ohmNumbers, flagNumber, verdictNumbers, foundNumbers};
+ghost use Rattle.foreign.specs.Numbers.{curveNumbers, ohmNumbers, flagNumber, verdictNumbers, choiceNumbers, foundNumbers};
 ghost use Rattle.foreign.specs.Answer.{unlessRefused, after};
 ghost use Rattle.foreign.specs.Inner.{Room};
 use bridge::Found;
@@ -16,11 +16,14 @@ use curve::Ohms;
 use curve::Rect;
 use curve::Refusal;
 use search::Verdict;
+use settings::Choice;
 
-// The numbers of a rectangle, and of a verdict.
+// The numbers of a rectangle, of a verdict, and of a choice.
 pub const RECT_LENGTH: usize = 4;
 
 pub const VERDICT_LENGTH: usize = 4;
+
+pub const CHOICE_LENGTH: usize = 3;
 
 // The numbers of a curve of this degree: the degree, and its sides.
 pub fn curve_length(degree: u32) -> usize
@@ -150,6 +153,31 @@ pub fn put_verdict(out: &mut [u32], refusal: Refusal, v: Verdict)
     out[1] = numbers[1];
     out[2] = numbers[2];
     out[3] = numbers[3];
+}
+
+// A choice's number, index and setting number.
+fn choice_numbers(choice: Choice) -> [u32; 3]
+    ensures { λ r. ⌜ r ≡ choiceNumbers choice ⌝ }
+{
+    match choice {
+        Choice::Refused => [0, 0, 0],
+        Choice::Fits { index, number } => [1, index, number as u32],
+        Choice::NoneFits => [2, 0, 0],
+    }
+}
+
+// Gives a choice, unless the call is refused.
+pub fn put_choice(out: &mut [u32], refusal: Refusal, choice: Choice)
+    requires { ⌜ Room refusal 3 (now out) ⌝ }
+    ensures { λ _. ⌜ now (out .exit) ≡ after refusal (choiceNumbers choice) (now (out .entry)) ⌝ }
+{
+    if refusal.number != 0 {
+        return;
+    }
+    let numbers = choice_numbers(choice);
+    out[0] = numbers[0];
+    out[1] = numbers[1];
+    out[2] = numbers[2];
 }
 
 // The numbers that what was found needs.
