@@ -1,6 +1,6 @@
 //! Interval Bézier curves by value, and the proved calls on them.
 
-use crate::{raw, Refusal};
+use crate::{raw, Choice, Refusal, Setting, CHOICE_LENGTH};
 
 /// The highest degree of a curve.
 pub const MAX_DEGREE: u32 = 8;
@@ -43,6 +43,7 @@ pub const fn card_length(degree: u32) -> usize {
 }
 
 /// A low and a high side, in steps of 1/1,024 ohm.
+#[repr(C)]
 #[derive(Clone, Copy, PartialEq, Eq, Debug, Default)]
 pub struct Interval {
     pub low: i32,
@@ -50,7 +51,8 @@ pub struct Interval {
 }
 
 /// A load known within margins, both ends included; or the relay limits of a search, whose high sides are the
-/// first values not allowed.
+/// first values not allowed. Its sides lie in memory in the header's order, as a setting of a list needs.
+#[repr(C)]
 #[derive(Clone, Copy, PartialEq, Eq, Debug, Default)]
 pub struct Rect {
     pub resistance: Interval,
@@ -267,6 +269,28 @@ impl Curve {
         );
         Refusal::check(answer)?;
         Ok(Verdict::of(verdict))
+    }
+
+    /// The first setting of a list in whose box the curve stays, as `search` with this depth and this
+    /// budget finds it: each setting's walk has the whole budget.
+    #[inline]
+    pub fn choose_setting(
+        &self,
+        settings: &[Setting],
+        depth: u32,
+        budget: u32,
+    ) -> Result<Choice, Refusal> {
+        let mut choice = [0; CHOICE_LENGTH];
+        let answer = raw::choose_setting(
+            self.degree,
+            &self.sides(),
+            settings,
+            depth,
+            budget,
+            &mut choice,
+        );
+        Refusal::check(answer)?;
+        Ok(Choice::of(choice))
     }
 
     /// The curve of a card.

@@ -181,6 +181,79 @@ fn searches_a_box() {
     assert_eq!(curve.search([0, 5, 0, 0].into(), 2, 5), refused(7, 0));
 }
 
+/// A list of settings with these limits and numbers.
+fn settings(records: &[([i32; RECT_LENGTH], u16)]) -> Vec<Setting> {
+    let setting = |&(limits, number): &([i32; RECT_LENGTH], u16)| Setting {
+        limits: limits.into(),
+        number,
+    };
+    records.iter().map(setting).collect()
+}
+
+/// Document 02, point 6. The load goes up to 2, and the bounds to 4: the walk over 0 to 3 looks at three
+/// pieces. Over 0 to 2 a walk is not Inside, since 2 is the first value not allowed.
+#[test]
+fn chooses_the_first_setting_that_fits() {
+    let curve = values(&[0, 4, 0]);
+    let (narrow, fitting, wide) = ([0, 2, 0, 1], [0, 3, 0, 1], [0, 5, 0, 1]);
+    let list = settings(&[(narrow, 9), (fitting, u16::MAX), (wide, 7), (fitting, 7)]);
+    let fits = |index, number| Ok(Choice::Fits { index, number });
+    // The walk over the narrow box spends its whole budget, and the next has three pieces again.
+    assert_eq!(curve.choose_setting(&list, 12, 3), fits(1, u16::MAX));
+    assert_eq!(curve.choose_setting(&list, 12, 2), fits(2, 7));
+    assert_eq!(curve.choose_setting(&list, 0, 8_191), fits(2, 7));
+    assert_eq!(curve.choose_setting(&list[3..], 12, 3), fits(0, 7));
+    let none = Ok(Choice::NoneFits);
+    assert_eq!(curve.choose_setting(&list[..1], 12, 8_191), none);
+    assert_eq!(curve.choose_setting(&list[..2], 12, 2), none);
+    // A list of the greatest length whose last record fits.
+    let mut full = vec![list[0]; MAX_SETTINGS];
+    full[MAX_SETTINGS - 1] = list[2];
+    assert_eq!(curve.choose_setting(&full, 1, 3), fits(63, 7));
+}
+
+/// 16, then the curve's own, then 7 over the whole list, then 8 and 9.
+#[test]
+fn refuses_a_list_in_order() {
+    let curve = values(&[0, 4]);
+    let (good, empty_box) = (([0, 5, 0, 1], 1), ([0, 5, 1, 1], 2));
+    let fits_then_bad = settings(&[good, good, empty_box, ([0, MAX_SIDE + 1, 0, 1], 3)]);
+    let too_long = [fits_then_bad[3]; MAX_SETTINGS + 1];
+    let bad_curve = Curve::default();
+    assert_eq!(bad_curve.choose_setting(&[], 13, 0), refused(16, 0));
+    assert_eq!(bad_curve.choose_setting(&too_long, 13, 0), refused(16, 65));
+    assert_eq!(
+        bad_curve.choose_setting(&fits_then_bad, 13, 0),
+        refused(1, 0)
+    );
+    let too_far = values(&[0, MAX_SIDE + 1]);
+    assert_eq!(too_far.choose_setting(&fits_then_bad, 13, 0), refused(2, 1));
+    assert_eq!(curve.choose_setting(&fits_then_bad, 13, 0), refused(7, 2));
+    assert_eq!(curve.choose_setting(&fits_then_bad, 2, 5), refused(7, 2));
+    assert_eq!(
+        curve.choose_setting(&fits_then_bad[2..], 2, 5),
+        refused(7, 0)
+    );
+    let good = &fits_then_bad[..2];
+    assert_eq!(curve.choose_setting(good, 13, 0), refused(8, 0));
+    assert_eq!(curve.choose_setting(good, 12, 0), refused(9, 0));
+    assert_eq!(curve.choose_setting(good, 12, 8_192), refused(9, 0));
+}
+
+/// The room for a choice is tried last, and what lies past the choice is kept.
+#[test]
+fn stores_a_choice_in_front() {
+    let good = &settings(&[([0, 5, 0, 1], 1)]);
+    let mut choice = [7; CHOICE_LENGTH + 1];
+    let sides = [0, 0, 0, 0, 4, 4, 0, 0];
+    let short = raw::choose_setting(1, &sides, good, 12, 5, &mut choice[..2]);
+    assert_eq!((short, choice), (12 | 3 << 32, [7; 4]));
+    let short = raw::choose_setting(1, &sides, good, 12, 0, &mut choice[..2]);
+    assert_eq!((short, choice), (9, [7; 4]));
+    let chosen = raw::choose_setting(1, &sides, good, 12, 5, &mut choice);
+    assert_eq!((chosen, choice), (0, [1, 0, 1, 7]));
+}
+
 #[test]
 fn writes_the_card_that_it_reads() {
     let curve = Curve::read_card(CARD).unwrap();

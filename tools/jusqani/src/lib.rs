@@ -6,6 +6,7 @@ mod bridge;
 mod curve;
 pub mod raw;
 mod refusal;
+mod settings;
 
 pub use bridge::Measurement;
 pub use curve::{
@@ -14,6 +15,7 @@ pub use curve::{
     VERDICT_LENGTH,
 };
 pub use refusal::Refusal;
+pub use settings::{Choice, Setting, CHOICE_LENGTH, MAX_SETTINGS};
 
 #[cfg(test)]
 mod examples;

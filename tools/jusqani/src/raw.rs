@@ -6,7 +6,11 @@
 //! that is all that the header asks of its caller.
 #![allow(unsafe_code)]
 
+use crate::Setting;
+
 mod foreign {
+    use super::Setting;
+
     extern "C" {
         pub fn jusqani_evaluate(
             degree: u32,
@@ -68,6 +72,17 @@ mod foreign {
             budget: u32,
             verdict: *mut u32,
             verdict_length: usize,
+        ) -> u64;
+        pub fn jusqani_choose_setting(
+            degree: u32,
+            sides: *const i32,
+            sides_length: usize,
+            settings: *const Setting,
+            settings_length: usize,
+            depth: u32,
+            budget: u32,
+            choice: *mut u32,
+            choice_length: usize,
         ) -> u64;
         pub fn jusqani_enclose(
             ohms: *const f32,
@@ -235,6 +250,33 @@ pub fn search(
             budget,
             verdict.as_mut_ptr(),
             verdict.len(),
+        )
+    }
+}
+
+/// Chooses the first setting of a list in whose box a curve stays.
+#[inline]
+pub fn choose_setting(
+    degree: u32,
+    sides: &[i32],
+    settings: &[Setting],
+    depth: u32,
+    budget: u32,
+    choice: &mut [u32],
+) -> u64 {
+    // Sound: three slices with their lengths, the last lent alone (see the module). A setting is laid out as
+    // the header's struct.
+    unsafe {
+        foreign::jusqani_choose_setting(
+            degree,
+            sides.as_ptr(),
+            sides.len(),
+            settings.as_ptr(),
+            settings.len(),
+            depth,
+            budget,
+            choice.as_mut_ptr(),
+            choice.len(),
         )
     }
 }

@@ -32,6 +32,7 @@ impl Refusal {
             }
             14 => "with the spread a side is out of range (16,384 ohms either way)",
             15 => "j is above 16",
+            16 => "the list of settings is empty or longer than 64",
             _ => "not a refusal of this library",
         }
     }
@@ -54,6 +55,8 @@ impl fmt::Display for Refusal {
         write!(f, "refused {}: {}", self.number, self.meaning())?;
         match (self.number, self.place) {
             (2 | 3, place) => write!(f, ", in rectangle {place}"),
+            // A search has one box, number 0; in a list a box has its record's index.
+            (7, place) => write!(f, ", in box {place}"),
             (10, u32::MAX) => write!(f, ", it has {} bytes or more", u32::MAX),
             (10, place) => write!(f, ", it has {place} bytes"),
             (11, place) => write!(f, ", at offset {place}"),
@@ -61,6 +64,8 @@ impl fmt::Display for Refusal {
             (13 | 14, 0) => write!(f, ", the resistance"),
             (13 | 14, 1) => write!(f, ", the reactance"),
             (13, 2) => write!(f, ", the spread"),
+            (16, u32::MAX) => write!(f, ", it has {} records or more", u32::MAX),
+            (16, place) => write!(f, ", it has {place} records"),
             _ => Ok(()),
         }
     }
@@ -96,7 +101,27 @@ mod tests {
             "refused 12: a buffer for the result is too short, the length 16 is needed"
         );
         assert_eq!(shown(15, 0), "refused 15: j is above 16");
-        assert_eq!(shown(16, 0), "refused 16: not a refusal of this library");
+        assert_eq!(shown(17, 0), "refused 17: not a refusal of this library");
+    }
+
+    #[test]
+    fn says_which_box_and_how_long_a_list() {
+        let meaning = "a box side is out of range, or a low side is not below its high side";
+        assert_eq!(shown(7, 0), format!("refused 7: {meaning}, in box 0"));
+        assert_eq!(shown(7, 63), format!("refused 7: {meaning}, in box 63"));
+        let meaning = "the list of settings is empty or longer than 64";
+        assert_eq!(
+            shown(16, 0),
+            format!("refused 16: {meaning}, it has 0 records")
+        );
+        assert_eq!(
+            shown(16, 65),
+            format!("refused 16: {meaning}, it has 65 records")
+        );
+        assert_eq!(
+            shown(16, u32::MAX),
+            format!("refused 16: {meaning}, it has 4294967295 records or more")
+        );
     }
 
     #[test]
