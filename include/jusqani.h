@@ -19,7 +19,8 @@
  *    4  den is not 1 to 65,536
  *    5  num is above den
  *    6  the degree is 8 and cannot be raised
- *    7  a box side is out of range, or a low side is not below its high side
+ *    7  a box side is out of range, or a low side is not below its high side; place: in a list of settings the first
+ *       such record's index
  *    8  depth is above 12
  *    9  budget is not 1 to 8,191
  *   10  the card has fewer than 11 bytes, or not the length for its degree; place: its length, 2^32 - 1 if longer
@@ -29,6 +30,7 @@
  *       place: 0 the resistance, 1 the reactance, 2 the spread
  *   14  with the spread a side is out of range (16,384 ohms either way); place: 0 the resistance, 1 the reactance
  *   15  j is above 16
+ *   16  the list of settings is empty or longer than 64; place: its length, 2^32 - 1 if longer
  *
  * A call tries them in the order in which its paragraph lists them, 12 last. A refused call changes no buffer. A call
  * that is not refused stores its result in front of each buffer that it is lent for it, and what lies past the result
@@ -57,15 +59,32 @@ extern "C" {
 #define JUSQANI_NUMBER(answer) ((uint32_t)((answer) & 0xffffffffu))
 #define JUSQANI_PLACE(answer) ((uint32_t)((answer) >> 32))
 
-/* The numbers of a rectangle, of a curve of degree n, and of a verdict; the bytes of the card of a curve of degree n. */
+/* The numbers of a rectangle, of a curve of degree n, of a verdict and of a choice; the bytes of the card of a curve of
+ * degree n; the most records of a list of settings. */
 #define JUSQANI_RECT_LENGTH 4
 #define JUSQANI_CURVE_LENGTH(n) (1 + 4 * ((n) + 1))
 #define JUSQANI_VERDICT_LENGTH 4
+#define JUSQANI_CHOICE_LENGTH 3
 #define JUSQANI_CARD_LENGTH(n) (11 + 41 * ((n) + 1))
+#define JUSQANI_MAX_SETTINGS 64
+
+/* What jusqani_choose_setting found. */
+#define JUSQANI_FITS 1
+#define JUSQANI_NONE_FITS 2
 
 /* What jusqani_enclose found. */
 #define JUSQANI_NO_CARRIER 1
 #define JUSQANI_RECTANGLE 2
+
+/*
+ * A relay setting: the box that its load must stay in, four sides, the low ones inside it and the high ones outside;
+ * and its number, 0 to 65,535. It has 20 bytes and the alignment of a side; what its last two bytes hold does not
+ * matter.
+ */
+struct jusqani_setting {
+    int32_t limits[JUSQANI_RECT_LENGTH];
+    uint16_t number;
+};
 
 /*
  * Evaluates the curve at num/den. The load's four sides are stored in load, and the same in ohms, with nothing lost,
@@ -127,6 +146,19 @@ uint64_t jusqani_bounds(uint32_t degree, const int32_t *sides, size_t sides_leng
 uint64_t jusqani_search(uint32_t degree, const int32_t *sides, size_t sides_length, const int32_t *limits,
                         size_t limits_length, uint32_t depth, uint32_t budget, uint32_t *verdict,
                         size_t verdict_length);
+
+/*
+ * Chooses from a list of relay settings the first whose box is found to hold the curve. Each record has a walk, that of
+ * jusqani_search over the record's box with this depth and this budget: each walk starts with the whole budget. Three
+ * numbers are stored in choice: JUSQANI_FITS, the index of the first record whose walk ends Inside, counted from 0, and
+ * its setting number; or JUSQANI_NONE_FITS, 0 and 0, which is a normal result, exactly if no record's walk ends Inside.
+ * Setting numbers may repeat, and the list is not changed. Refusals 16, which is tried before the curve; 1, 2, 3, 7,
+ * for which every box of the list is tried before any walk, 8, 9 and 12: choice is shorter than 3. A refusal changes
+ * nothing, and choice keeps what lies past the three.
+ */
+uint64_t jusqani_choose_setting(uint32_t degree, const int32_t *sides, size_t sides_length,
+                                const struct jusqani_setting *settings, size_t settings_length, uint32_t depth,
+                                uint32_t budget, uint32_t *choice, size_t choice_length);
 
 /*
  * Encloses what the bridge measured in a rectangle of whole steps. The length of ohms tells the form: 0 numbers are no
