@@ -5,6 +5,8 @@ use crate::bridge::Measurement;
 use crate::card::{card_length, card_of, curve_of};
 use crate::model::{ohms, refuse_if, Curve, Flagged, Parameter, Rectangle, Refusal, MAX_DEGREE};
 use crate::search::Search;
+use crate::settings::{Chosen, Record, Settings};
+use jusqani::Setting;
 
 /// A call on a curve at num/den, with two buffers for its result and the number for its exact flag.
 pub type AtParameter<T> = fn(u32, &[i32], u32, u32, &mut [i32], &mut [T], &mut u32) -> u64;
@@ -16,11 +18,13 @@ pub type OnCurve<T> = fn(u32, &[i32], &mut [T]) -> u64;
 pub type Elevate = fn(u32, &[i32], &mut [i32], &mut u32) -> u64;
 /// A search: a curve, a box, depth and budget, and the buffer for the verdict.
 pub type OnBox = fn(u32, &[i32], &[i32], u32, u32, &mut [u32]) -> u64;
+/// A choice: a curve, a list of settings, depth and budget, and the buffer for what is chosen.
+pub type OnSettings = fn(u32, &[i32], &[Setting], u32, u32, &mut [u32]) -> u64;
 
 /// What the bridge measured, the buffer for its rectangle, and the number for what was found.
 pub type OnMeasured = fn(&[f32], &mut [i32], &mut u32) -> u64;
 
-/// The ten calls, of the proved library or of the model.
+/// The eleven calls, of the proved library or of the model.
 #[derive(Clone, Copy)]
 pub struct Door {
     pub evaluate: AtParameter<f32>,
@@ -29,6 +33,7 @@ pub struct Door {
     pub elevate: Elevate,
     pub bounds: OnCurve<i32>,
     pub search: OnBox,
+    pub choose_setting: OnSettings,
     pub enclose: OnMeasured,
     pub read_card: fn(&[u8], &mut [i32]) -> u64,
     pub write_card: OnCurve<u8>,
@@ -43,15 +48,22 @@ pub const MODEL: Door = Door {
     elevate,
     bounds,
     search,
+    choose_setting,
     enclose,
     read_card,
     write_card,
     panel,
 };
 
-/// The lengths of a result: a rectangle or a verdict, and the panel call's four sides of four bytes.
+/// The lengths of a result: a rectangle or a verdict, a choice, and the panel call's four sides of four
+/// bytes.
 pub const FOUR: usize = 4;
+pub const CHOICE: usize = 3;
 pub const PANEL_BYTES: usize = 16;
+
+/// What a choice found.
+pub const FITS: u32 = 1;
+pub const NONE_FITS: u32 = 2;
 
 /// What the bridge's call found.
 pub const NO_CARRIER: u32 = 1;
@@ -77,6 +89,15 @@ pub fn given_curve(degree: u32, sides: &[i32]) -> Curve {
 /// The box that a search is given: sides that the slice does not have count as zero.
 pub fn given_limits(limits: &[i32]) -> Rectangle {
     std::array::from_fn(|side| limits.get(side).copied().unwrap_or(0).into())
+}
+
+/// The records that a choice is given.
+fn given_records(settings: &[Setting]) -> Vec<Record> {
+    let record = |setting: &Setting| Record {
+        limits: <[i32; FOUR]>::from(setting.limits).map(i64::from),
+        number: setting.number,
+    };
+    settings.iter().map(record).collect()
 }
 
 /// What the bridge delivered, by the length of the slice: a reactance that it does not have counts as not a
@@ -220,6 +241,36 @@ fn search(
     answer(result())
 }
 
+fn choose_setting(
+    degree: u32,
+    sides: &[i32],
+    settings: &[Setting],
+    depth: u32,
+    budget: u32,
+    choice: &mut [u32],
+) -> u64 {
+    let mut result = || {
+        let settings = Settings {
+            records: given_records(settings),
+            depth,
+            budget,
+        };
+        let chosen = settings.choose(&given_curve(degree, sides))?;
+        need(CHOICE, &[choice.len()])?;
+        choice[..CHOICE].copy_from_slice(&choice_of(chosen));
+        Ok(())
+    };
+    answer(result())
+}
+
+/// The three numbers of a choice: fits, the index and the number; or none fits and zeros.
+pub fn choice_of(chosen: Option<Chosen>) -> [u32; CHOICE] {
+    match chosen {
+        Some(Chosen { index, number }) => [FITS, index as u32, number.into()],
+        None => [NONE_FITS, 0, 0],
+    }
+}
+
 fn enclose(ohms: &[f32], rect: &mut [i32], found: &mut u32) -> u64 {
     let mut result = || {
         let Some(sides) = given_measurement(ohms).enclose()? else {
@@ -342,6 +393,32 @@ mod tests {
         assert_eq!(panel(CARD, 3, 2, &mut out), 5);
         assert_eq!(panel(&CARD[..92], 3, 2, &mut out), 10);
         assert_eq!(out, [7; 15]);
+    }
+
+    /// The card's curve goes from 0 to 3 and from -3 to 2.
+    #[test]
+    fn chooses_and_stores_three_numbers() {
+        let setting = |limits: [i32; 4], number| Setting {
+            limits: limits.into(),
+            number,
+        };
+        let list = [
+            setting([0, 3, -3, 3], 5),
+            setting([0, 4, -3, 3], 65_535),
+            setting([0, 4, 3, -3], 6),
+        ];
+        let call = |list: &[Setting], depth, room: usize| {
+            let mut choice = [7; 5];
+            let answer = choose_setting(1, &SIDES, list, depth, 1, &mut choice[..room]);
+            (answer, choice)
+        };
+        let (kept, place) = ([7; 5], |place: u64, number: u64| (place << 32) | number);
+        assert_eq!(call(&list[..2], 0, 5), (0, [1, 1, 65_535, 7, 7]));
+        assert_eq!(call(&list[..1], 0, 3), (0, [2, 0, 0, 7, 7]));
+        assert_eq!(call(&list[..1], 0, 2), (place(3, 12), kept));
+        assert_eq!(call(&list[..2], 13, 2), (8, kept));
+        assert_eq!(call(&list, 13, 2), (place(2, 7), kept));
+        assert_eq!(call(&[list[2]; 1_000], 13, 2), (place(1_000, 16), kept));
     }
 
     #[test]

@@ -1,4 +1,4 @@
-//! The second program: document 01 and document 02's points 1 to 4 written again in ordinary Rust, from
+//! The second program: document 01 and document 02's points 1 to 4 and 6 written again in ordinary Rust, from
 //! the papers and not from the proved code, and what runs it beside the proved library and the programs.
 #![forbid(unsafe_code)]
 
@@ -12,6 +12,7 @@ pub mod ledger;
 pub mod model;
 pub mod natural;
 pub mod search;
+pub mod settings;
 pub mod sixteenths;
 
 // What is drawn.

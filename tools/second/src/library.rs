@@ -10,6 +10,7 @@ pub const LIBRARY: Door = Door {
     elevate: raw::elevate,
     bounds: raw::bounds,
     search: raw::search,
+    choose_setting: raw::choose_setting,
     enclose: raw::enclose,
     read_card: raw::read_card,
     write_card: raw::write_card,

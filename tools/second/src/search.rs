@@ -7,6 +7,12 @@ pub const MAX_DEPTH: u32 = 12;
 pub const MAX_BUDGET: u32 = 8_191;
 const MIDDLE: Parameter = Parameter { num: 1, den: 2 };
 
+/// The verdicts' numbers.
+pub const INSIDE: u32 = 1;
+pub const OUTSIDE: u32 = 2;
+pub const SPENT: u32 = 3;
+pub const UNDECIDED: u32 = 4;
+
 /// How a search ends. Depth and index name a piece.
 #[derive(Clone, Copy, PartialEq, Debug)]
 pub enum Verdict {
@@ -48,21 +54,17 @@ impl Search {
     pub fn over(&self, curve: &Curve) -> Result<[u32; 4], Refusal> {
         let (verdict, count) = self.verdict(curve)?;
         Ok(match verdict {
-            Verdict::Inside => [1, 0, 0, count],
-            Verdict::Outside { depth, index } => [2, depth, index, count],
-            Verdict::Spent => [3, 0, 0, count],
-            Verdict::Undecided { depth, index } => [4, depth, index, count],
+            Verdict::Inside => [INSIDE, 0, 0, count],
+            Verdict::Outside { depth, index } => [OUTSIDE, depth, index, count],
+            Verdict::Spent => [SPENT, 0, 0, count],
+            Verdict::Undecided { depth, index } => [UNDECIDED, depth, index, count],
         })
     }
 
     fn verdict(&self, curve: &Curve) -> Result<(Verdict, u32), Refusal> {
         curve.check()?;
-        let limits = &self.limits;
-        let empty = empty_coordinates(limits) != [false; 2];
-        let no_box = out_of_range(limits) || low_above_high(limits) || empty;
-        refuse_if(no_box, 7, 0)?;
-        refuse_if(self.depth > MAX_DEPTH, 8, 0)?;
-        refuse_if(self.budget < 1 || self.budget > MAX_BUDGET, 9, 0)?;
+        refuse_if(is_no_box(&self.limits), 7, 0)?;
+        check_effort(self.depth, self.budget)?;
         self.all_pieces(Piece {
             curve: *curve,
             depth: 0,
@@ -95,6 +97,18 @@ impl Search {
         }
         Ok((noted.unwrap_or(Verdict::Inside), count))
     }
+}
+
+/// Whether a side is out of range, or a low above its high or equal to it.
+pub fn is_no_box(limits: &Rectangle) -> bool {
+    let empty = empty_coordinates(limits) != [false; 2];
+    out_of_range(limits) || low_above_high(limits) || empty
+}
+
+/// Refusals 8 and 9.
+pub fn check_effort(depth: u32, budget: u32) -> Result<(), Refusal> {
+    refuse_if(depth > MAX_DEPTH, 8, 0)?;
+    refuse_if(!(1..=MAX_BUDGET).contains(&budget), 9, 0)
 }
 
 /// A box's high sides lie outside the box, its low sides inside.

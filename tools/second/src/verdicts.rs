@@ -6,6 +6,7 @@ use crate::claim::{Bernstein, Ordinary};
 use crate::coverage::{BoxLoad, Line, Row};
 use crate::given::Given;
 use crate::model::Rectangle;
+use crate::search::{INSIDE, OUTSIDE};
 use crate::trial::Trial;
 use std::cmp::Ordering;
 
@@ -13,9 +14,6 @@ use std::cmp::Ordering;
 const TRIED: u64 = 8;
 /// A stretch is tried at both ends and at one place between, a whole number of these parts from its start.
 const PARTS: u32 = 256;
-
-const INSIDE: u32 = 1;
-const OUTSIDE: u32 = 2;
 
 impl Trial<'_> {
     /// Tries the verdict of an accepted search. Inside has depth 0 and index 0, which are the whole curve's.
