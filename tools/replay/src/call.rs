@@ -1,12 +1,12 @@
 //! The lines inside a case: the calls, their numbers, and their columns.
 
-use jusqani::Rect;
+use jusqani::{Rect, Setting};
 
 use crate::ledger::Kept;
 use crate::line::{line_end, number, Fault, Field};
 
 /// A call with all that it is given.
-#[derive(Clone, Copy, PartialEq, Debug)]
+#[derive(Clone, PartialEq, Debug)]
 pub enum Call {
     Evaluate {
         num: u32,
@@ -27,15 +27,45 @@ pub enum Call {
         depth: u32,
         budget: u32,
     },
+    ChooseSetting {
+        settings: Vec<Setting>,
+        depth: u32,
+        budget: u32,
+    },
 }
 
-/// What a line inside a case asks for.
-#[derive(Clone, Copy, PartialEq, Debug)]
+/// What is asked for inside a case.
+#[derive(Clone, PartialEq, Debug)]
 pub enum Request {
     Call(Call),
     /// The case ends here.
     Close,
 }
+
+/// What the first line of a request tells: the whole request, or that records follow.
+#[derive(Clone, PartialEq, Debug)]
+pub enum First {
+    Whole(Request),
+    List(List),
+}
+
+/// What the first line of a call on a list tells: so many lines follow, one for each record.
+#[derive(Clone, Copy, PartialEq, Debug)]
+pub struct List {
+    pub depth: u32,
+    pub budget: u32,
+    pub count: u32,
+}
+
+/// The columns of a record's line.
+pub const RECORD_COLUMNS: usize = 5;
+
+/// The number of a record's setting.
+const SETTING: Field = Field {
+    name: "the setting number",
+    least: 0,
+    largest: u16::MAX as i64,
+};
 
 /// What kind of line it is, as its first column tells.
 #[derive(Clone, Copy, PartialEq, Debug)]
@@ -47,6 +77,7 @@ pub enum Kind {
     Bounds,
     Search,
     EvaluateSixteenths,
+    ChooseSetting,
 }
 
 impl Kind {
@@ -61,9 +92,10 @@ impl Kind {
             5 => Ok(Kind::Bounds),
             6 => Ok(Kind::Search),
             7 => Ok(Kind::EvaluateSixteenths),
+            8 => Ok(Kind::ChooseSetting),
             other => Err(Fault {
                 at: 0,
-                what: format!("{other} is no call: 1 to 7 are the calls, and 0 ends a case"),
+                what: format!("{other} is no call: 1 to 8 are the calls, and 0 ends a case"),
             }),
         }
     }
@@ -74,32 +106,58 @@ impl Kind {
             Kind::Close | Kind::Elevate | Kind::Bounds => 1,
             Kind::EvaluateSixteenths => 2,
             Kind::Evaluate | Kind::Subdivide(_) => 3,
+            Kind::ChooseSetting => 4,
             Kind::Search => 7,
         }
     }
 
-    /// What a line of this kind asks for.
-    pub fn request(self, line: &[u8]) -> Result<Request, Fault> {
-        let request = match self {
-            Kind::Close => Request::Close,
+    /// What a line of this kind tells.
+    pub fn first(self, line: &[u8]) -> Result<First, Fault> {
+        let call = |call| First::Whole(Request::Call(call));
+        let first = match self {
+            Kind::Close => First::Whole(Request::Close),
             Kind::Evaluate => {
                 let (num, den) = parameter(line)?;
-                Request::Call(Call::Evaluate { num, den })
+                call(Call::Evaluate { num, den })
             }
             Kind::Subdivide(kept) => {
                 let (num, den) = parameter(line)?;
-                Request::Call(Call::Subdivide { num, den, kept })
+                call(Call::Subdivide { num, den, kept })
             }
-            Kind::Elevate => Request::Call(Call::Elevate),
-            Kind::Bounds => Request::Call(Call::Bounds),
-            Kind::Search => Request::Call(search(line)?),
+            Kind::Elevate => call(Call::Elevate),
+            Kind::Bounds => call(Call::Bounds),
+            Kind::Search => call(search(line)?),
             Kind::EvaluateSixteenths => {
                 let j = Field::word("j").read(line, 1)?;
-                Request::Call(Call::EvaluateSixteenths { j })
+                call(Call::EvaluateSixteenths { j })
             }
+            Kind::ChooseSetting => First::List(list(line)?),
         };
         line_end(line, self.columns())?;
-        Ok(request)
+        Ok(first)
+    }
+}
+
+impl List {
+    /// The setting on a record's line. A fault's words say which record it is, since it may be the count
+    /// that is wrong.
+    pub fn setting(&self, index: u32, line: &[u8]) -> Result<Setting, Fault> {
+        setting(line).map_err(|Fault { at, what }| Fault {
+            at,
+            what: format!(
+                "{what}, in record {index} (counted from 0) of {}",
+                self.count
+            ),
+        })
+    }
+
+    /// The call on the list of these settings.
+    pub fn call(&self, settings: Vec<Setting>) -> Call {
+        Call::ChooseSetting {
+            settings,
+            depth: self.depth,
+            budget: self.budget,
+        }
     }
 }
 
@@ -110,17 +168,39 @@ fn parameter(line: &[u8]) -> Result<(u32, u32), Fault> {
 }
 
 fn search(line: &[u8]) -> Result<Call, Fault> {
-    let limits: [i32; 4] = [
-        Field::side("the box's low resistance").read(line, 1)?,
-        Field::side("the box's high resistance").read(line, 2)?,
-        Field::side("the box's low reactance").read(line, 3)?,
-        Field::side("the box's high reactance").read(line, 4)?,
-    ];
     Ok(Call::Search {
-        limits: limits.into(),
+        limits: limits(line, 1)?,
         depth: Field::word("depth").read(line, 5)?,
         budget: Field::word("budget").read(line, 6)?,
     })
+}
+
+/// The box whose sides begin at the column k.
+fn limits(line: &[u8], k: usize) -> Result<Rect, Fault> {
+    let limits: [i32; 4] = [
+        Field::side("the box's low resistance").read(line, k)?,
+        Field::side("the box's high resistance").read(line, k + 1)?,
+        Field::side("the box's low reactance").read(line, k + 2)?,
+        Field::side("the box's high reactance").read(line, k + 3)?,
+    ];
+    Ok(limits.into())
+}
+
+fn list(line: &[u8]) -> Result<List, Fault> {
+    Ok(List {
+        depth: Field::word("depth").read(line, 1)?,
+        budget: Field::word("budget").read(line, 2)?,
+        count: Field::word("the count of records").read(line, 3)?,
+    })
+}
+
+fn setting(line: &[u8]) -> Result<Setting, Fault> {
+    let setting = Setting {
+        limits: limits(line, 0)?,
+        number: SETTING.read(line, 4)?,
+    };
+    line_end(line, RECORD_COLUMNS)?;
+    Ok(setting)
 }
 
 #[cfg(test)]
@@ -128,9 +208,9 @@ mod tests {
     use super::*;
     use crate::columns::columns_of;
 
-    fn read(numbers: &[i64]) -> Result<Request, Fault> {
+    fn read(numbers: &[i64]) -> Result<First, Fault> {
         let line = format!("{}\n", columns_of(numbers));
-        Kind::of(line.as_bytes())?.request(line.as_bytes())
+        Kind::of(line.as_bytes())?.first(line.as_bytes())
     }
 
     /// Where a line is wrong, and the words for it.
@@ -159,15 +239,71 @@ mod tests {
             (&[7, word], Call::EvaluateSixteenths { j: u32::MAX }),
         ];
         for (numbers, call) in calls {
-            assert_eq!(read(numbers), Ok(Request::Call(call)));
+            assert_eq!(read(numbers), Ok(First::Whole(Request::Call(call))));
         }
-        assert_eq!(read(&[0]), Ok(Request::Close));
+        assert_eq!(read(&[0]), Ok(First::Whole(Request::Close)));
+        let list = List {
+            depth: 5,
+            budget: 6,
+            count: u32::MAX,
+        };
+        assert_eq!(read(&[8, 5, 6, word]), Ok(First::List(list)));
+    }
+
+    const LIST: List = List {
+        depth: 5,
+        budget: 6,
+        count: 3,
+    };
+
+    fn record(numbers: &[i64]) -> Result<Setting, Fault> {
+        LIST.setting(2, format!("{}\n", columns_of(numbers)).as_bytes())
+    }
+
+    #[test]
+    fn reads_a_record() {
+        let setting = Setting {
+            limits: [-999_999_999, i32::MAX, -3, 4].into(),
+            number: u16::MAX,
+        };
+        let numbers = [-999_999_999, i64::from(i32::MAX), -3, 4, 65_535];
+        assert_eq!(record(&numbers), Ok(setting));
+        let call = Call::ChooseSetting {
+            settings: vec![setting],
+            depth: 5,
+            budget: 6,
+        };
+        assert_eq!(LIST.call(vec![setting]), call);
+    }
+
+    #[test]
+    fn finds_the_first_wrong_column_of_a_record() {
+        let wrong = |numbers: &[i64]| {
+            let fault = record(numbers).unwrap_err();
+            (fault.at, fault.what)
+        };
+        let of_list = ", in record 2 (counted from 0) of 3";
+        let words = "the setting number is 65536, which is not 0 to 65535";
+        assert_eq!(
+            wrong(&[0, 1, 0, 1, 65_536]),
+            (40, format!("{words}{of_list}"))
+        );
+        let words = "the setting number is -1, which is not 0 to 65535";
+        assert_eq!(wrong(&[0, 1, 0, 1, -1]), (40, format!("{words}{of_list}")));
+        let words =
+            "the box's high reactance is 2147483648, which is not -2147483648 to 2147483647";
+        let numbers = [0, 1, 0, 2_147_483_648, -1];
+        assert_eq!(wrong(&numbers), (30, format!("{words}{of_list}")));
+        let words = "the line ends, and ten bytes of a number are due here";
+        assert_eq!(wrong(&[0]), (10, format!("{words}{of_list}")));
+        assert_eq!(wrong(&[0, 1, 0, 1]).0, 40);
+        assert_eq!(wrong(&[0, 1, 0, 1, 7, 7]).0, 50);
     }
 
     #[test]
     fn finds_the_first_wrong_column() {
-        let words = "8 is no call: 1 to 7 are the calls, and 0 ends a case";
-        assert_eq!(wrong(&[8]), (0, words.to_string()));
+        let words = "9 is no call: 1 to 8 are the calls, and 0 ends a case";
+        assert_eq!(wrong(&[9]), (0, words.to_string()));
         let words = "num is -1, which is not 0 to 4294967295";
         assert_eq!(wrong(&[1, -1, -1]), (10, words.to_string()));
         let words = "j is -1, which is not 0 to 4294967295";
@@ -182,5 +318,9 @@ mod tests {
         assert_eq!(wrong(&[7]).0, 10);
         assert_eq!(wrong(&[7, 8, 16]).0, 20);
         assert_eq!(wrong(&[4, 4]).0, 10);
+        let words = "the count of records is -1, which is not 0 to 4294967295";
+        assert_eq!(wrong(&[8, 5, 6, -1]), (30, words.to_string()));
+        assert_eq!(wrong(&[8, 5, 6]).0, 30);
+        assert_eq!(wrong(&[8, 5, 6, 1, 1]).0, 40);
     }
 }

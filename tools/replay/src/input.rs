@@ -3,9 +3,9 @@
 use std::io::{self, BufRead, Read};
 use std::mem;
 
-use jusqani::MAX_DEGREE;
+use jusqani::{Setting, MAX_DEGREE};
 
-use crate::call::{Kind, Request};
+use crate::call::{First, Kind, List, Request, RECORD_COLUMNS};
 use crate::columns::{line_length, COLUMN, LINE_END};
 use crate::line::{line_end, number, Fault, Field};
 
@@ -32,7 +32,7 @@ impl From<io::Error> for Stop {
     }
 }
 
-/// A card or a call line that is malformed or cut short: the offset of its first byte, and what is
+/// A card or a call that is malformed or cut short: the offset of its first byte, and what is
 /// wrong at which line and byte of the line, both counted from 1.
 #[derive(PartialEq, Debug)]
 pub struct Malformed {
@@ -81,7 +81,7 @@ impl<R: BufRead> Input<R> {
         Ok(Some(card))
     }
 
-    /// What the next line of a case asks for; none at the text's end.
+    /// What is asked for next inside a case; none at the text's end.
     pub fn request(&mut self) -> Result<Option<Request>, Stop> {
         let offset = self.bytes_passed;
         self.extend_line(COLUMN)?;
@@ -90,10 +90,26 @@ impl<R: BufRead> Input<R> {
         }
         let kind = Kind::of(&self.line).map_err(|fault| self.malformed(offset, fault))?;
         self.extend_line(line_length(kind.columns()))?;
-        let request = kind.request(&self.line);
-        let request = request.map_err(|fault| self.malformed(offset, fault))?;
+        let first = kind.first(&self.line);
+        let first = first.map_err(|fault| self.malformed(offset, fault))?;
         self.pass_line();
-        Ok(Some(request))
+        Ok(Some(match first {
+            First::Whole(request) => request,
+            First::List(list) => Request::Call(list.call(self.settings(offset, &list)?)),
+        }))
+    }
+
+    /// The records of the call on a list that begins at an offset. They are kept as they come, since the
+    /// count may be larger than what the text holds.
+    fn settings(&mut self, offset: u64, list: &List) -> Result<Vec<Setting>, Stop> {
+        let mut settings = Vec::new();
+        for index in 0..list.count {
+            self.extend_line(line_length(RECORD_COLUMNS))?;
+            let setting = list.setting(index, &self.line);
+            settings.push(setting.map_err(|fault| self.malformed(offset, fault))?);
+            self.pass_line();
+        }
+        Ok(settings)
     }
 
     /// Reads the line at hand on to so many bytes, or to its end or the text's.
@@ -115,7 +131,7 @@ impl<R: BufRead> Input<R> {
         mem::take(&mut self.line)
     }
 
-    /// A fault in the line at hand, which is of the card or call line that begins at an offset.
+    /// A fault in the line at hand, which is of the card or call that begins at an offset.
     fn malformed(&self, offset: u64, fault: Fault) -> Stop {
         Stop::Malformed(Malformed {
             offset,
@@ -202,11 +218,59 @@ mod tests {
     #[test]
     fn finds_the_fault_in_a_call_line() {
         let after = |line: &str| malformed(&format!("{CARD}         4\n{line}"));
-        assert_eq!(after("         8\n"), (104, 5, 1));
+        assert_eq!(after("         9\n"), (104, 5, 1));
         assert_eq!(after("\n"), (104, 5, 1));
         assert_eq!(after("         1         1\n"), (104, 5, 21));
         assert_eq!(after("         1         1         2"), (104, 5, 31));
         assert_eq!(after("         5         5\n"), (104, 5, 11));
+    }
+
+    const RECORD: &str = "         0         4        -3         3         7\n";
+
+    /// A list of so many records by its first line.
+    fn list_of(count: u64) -> String {
+        format!("         8         6       500{count:>10}\n")
+    }
+
+    #[test]
+    fn takes_the_records_of_a_list() {
+        let setting = Setting {
+            limits: [0, 4, -3, 3].into(),
+            number: 7,
+        };
+        for count in [0, 1, 2, 64, 65, 66, 300] {
+            let records = RECORD.repeat(count as usize);
+            let text = format!("{CARD}{}{records}         5\n", list_of(count));
+            let mut input = Input::new(text.as_bytes());
+            input.card().unwrap();
+            let call = Call::ChooseSetting {
+                settings: vec![setting; count as usize],
+                depth: 6,
+                budget: 500,
+            };
+            assert_eq!(input.request().unwrap(), Some(Request::Call(call)));
+            let bounds = Request::Call(Call::Bounds);
+            assert_eq!(input.request().unwrap(), Some(bounds));
+        }
+    }
+
+    /// Whichever line it is in, the call begins at its first line. A count beyond what is there takes no room
+    /// beforehand.
+    #[test]
+    fn finds_the_fault_in_a_list() {
+        let after = |count, records: &str| {
+            malformed(&format!("{CARD}         4\n{}{records}", list_of(count)))
+        };
+        assert_eq!(after(4_294_967_296, ""), (104, 5, 31));
+        assert_eq!(after(1, ""), (104, 6, 1));
+        assert_eq!(after(1, &RECORD[..50]), (104, 6, 51));
+        assert_eq!(after(u64::from(u32::MAX), RECORD), (104, 7, 1));
+        assert_eq!(after(2, &format!("{RECORD}         0\n")), (104, 7, 11));
+        let wrong = RECORD.replace("        -3", "        3-");
+        assert_eq!(after(2, &format!("{RECORD}{wrong}")), (104, 7, 21));
+        let longer = RECORD.replace("7\n", "7         7\n");
+        assert_eq!(after(2, &format!("{RECORD}{longer}")), (104, 7, 51));
+        assert_eq!(after(1, &format!("{RECORD}{RECORD}")), (196, 7, 11));
     }
 
     /// A stream that gives one byte at a time, and fails where it is read past its last.
@@ -229,6 +293,11 @@ mod tests {
             assert!(input.card().unwrap().is_some());
             assert!(end == 93 || input.request().unwrap().is_some());
             assert!(end < 125 || matches!(input.request(), Err(Stop::Malformed(_))));
+        }
+        for list in [list_of(0), list_of(2) + &RECORD.repeat(2)] {
+            let text = format!("{CARD}{list}");
+            let mut input = Input::new(BufReader::new(ByteByByte(text.as_bytes())));
+            assert!(input.card().unwrap().is_some() && input.request().unwrap().is_some());
         }
         let source = BufReader::new(ByteByByte(b"1\n"));
         assert!(matches!(stop_of(source), Stop::Malformed(_)));

@@ -27,7 +27,7 @@ pub struct Field {
 }
 
 impl Field {
-    /// A parameter, a depth or a budget: any number that the calls can be given.
+    /// A parameter, a depth, a budget or a count of records: any 32-bit number, as the calls can be given.
     pub const fn word(name: &'static str) -> Field {
         Field {
             name,

@@ -20,18 +20,23 @@ line with the column 0:
   budget                                            4 Undecided), depth, index, count
   7, j                       reading at j/16,       as for 1
                              summed
+  8, depth, budget, count;   choice of a setting    0, 1 fits or 2 none fits, the record's index,
+  then a line for each                              its setting number
+  record: four box sides,
+  setting number
 
 Reading 1 rounds every stage; reading 7, for j from 0 to 16, rounds the whole sum once. Exact is 1 where
 the call rounded nothing, and 0 where it rounded some side. A box's low sides lie inside it and its high
-sides outside: a high side is the first value not allowed. A card answers 0 and its degree, and a refusal
-its number and place. A card or a call line that is malformed or cut short ends the run with 99 and the
-offset of its first byte.
+sides outside: a high side is the first value not allowed. Call 8 makes the walk of call 6 over each
+record's box in turn, each with the whole budget, and chooses the first that ends Inside; a setting
+number is 0 to 65535. A card answers 0 and its degree, and a refusal its number and place. A card or a
+call that is malformed or cut short ends the run with 99 and the offset of its first byte.
 
   --places  put two spaces and the place on the starting curve behind each accepted reading, as
             upper/lower in lowest terms, where both have at most 20 digits
   --help    print this
 
-Exit status: 0 the run went to the end, or nobody reads its output any more; 1 a card or a call line
+Exit status: 0 the run went to the end, or nobody reads its output any more; 1 a card or a call
 is malformed or cut short; 2 bad usage, or the input cannot be read or the output not be written.
 ";
 

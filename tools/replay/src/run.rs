@@ -7,7 +7,7 @@ use crate::columns::{capped, columns_of};
 use crate::input::{Input, Malformed, Stop};
 use crate::session::Session;
 
-/// The first column of the line that ends a run at a malformed card or call line.
+/// The first column of the line that ends a run at a malformed card or call.
 const STOPPED: i64 = 99;
 
 /// Why a run ended before the text did.
@@ -27,7 +27,7 @@ impl From<Stop> for Failure {
     }
 }
 
-/// Answers a text. A malformed card or call line has an answer too, the last.
+/// Answers a text. A malformed card or call has an answer too, the last.
 pub fn run(source: impl BufRead, mut output: impl Write, places: bool) -> Result<(), Failure> {
     let ended = answer_cases(&mut Input::new(source), &mut output, places);
     if let Err(Failure::Malformed(malformed)) = &ended {

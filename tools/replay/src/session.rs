@@ -1,6 +1,8 @@
 //! A case as it runs: the curve that is left, its ledger, and the answer to each call.
 
-use jusqani::{Curve, Elevation, Evaluation, Rect, Refusal, Subdivision, Verdict, SIXTEENTHS};
+use jusqani::{
+    Choice, Curve, Elevation, Evaluation, Rect, Refusal, Setting, Subdivision, Verdict, SIXTEENTHS,
+};
 
 use crate::call::Call;
 use crate::columns::{capped, columns_of};
@@ -69,6 +71,11 @@ impl Session {
                 depth,
                 budget,
             } => self.search(limits, depth, budget),
+            Call::ChooseSetting {
+                settings,
+                depth,
+                budget,
+            } => self.choose_setting(&settings, depth, budget),
         };
         answer.unwrap_or_else(Answer::refused)
     }
@@ -142,6 +149,21 @@ impl Session {
         numbers.extend(verdict.map(i64::from));
         Ok(Answer::of(numbers))
     }
+
+    fn choose_setting(
+        &self,
+        settings: &[Setting],
+        depth: u32,
+        budget: u32,
+    ) -> Result<Answer, Refusal> {
+        let choice = match self.curve.choose_setting(settings, depth, budget)? {
+            Choice::Fits { index, number } => [1, index as i64, number.into()],
+            Choice::NoneFits => [2, 0, 0],
+        };
+        let mut numbers = vec![0];
+        numbers.extend(choice);
+        Ok(Answer::of(numbers))
+    }
 }
 
 /// The sides of some rectangles, in their order.
@@ -194,6 +216,39 @@ mod tests {
         assert_eq!(
             numbers(&mut session, evaluate(0, 1)),
             [0, 0, 1, -3, -3, 4, 1]
+        );
+    }
+
+    /// A list of boxes from 0 to each of these high resistances; the settings count up from 7.
+    fn list(highs: &[i32], budget: u32) -> Call {
+        let setting = |(high, number): (&i32, u16)| Setting {
+            limits: [0, *high, -3, 3].into(),
+            number,
+        };
+        Call::ChooseSetting {
+            settings: highs.iter().zip(7..).map(setting).collect(),
+            depth: 6,
+            budget,
+        }
+    }
+
+    /// The load goes up to 3. A chosen setting leaves the curve and its ledger as they were.
+    #[test]
+    fn chooses_a_setting() {
+        let (mut session, _) = Session::open(CARD, false);
+        assert_eq!(
+            numbers(&mut session, list(&[2, 3, 4, 5], 500)),
+            [0, 1, 2, 9]
+        );
+        assert_eq!(numbers(&mut session, list(&[4], 1)), [0, 1, 0, 7]);
+        assert_eq!(numbers(&mut session, list(&[2, 3], 500)), [0, 2, 0, 0]);
+        assert_eq!(numbers(&mut session, list(&[], 0)), [16, 0]);
+        assert_eq!(numbers(&mut session, list(&[4; 65], 0)), [16, 65]);
+        assert_eq!(numbers(&mut session, list(&[4, 5, 0], 0)), [7, 2]);
+        assert_eq!(numbers(&mut session, list(&[4, 5], 0)), [9, 0]);
+        assert_eq!(
+            numbers(&mut session, evaluate(1, 2)),
+            [0, 0, 2, -2, 0, 1, 0]
         );
     }
 
@@ -255,9 +310,17 @@ mod tests {
         let (mut session, answer) = Session::open(card.as_bytes(), true);
         assert_eq!(answer.line(), "         3         1\n");
         let sixteenths = Call::EvaluateSixteenths { j: 17 };
-        for call in [Call::Bounds, Call::Elevate, evaluate(1, 0), sixteenths] {
+        let list_with_bad_box = list(&[0], 0);
+        for call in [
+            Call::Bounds,
+            Call::Elevate,
+            evaluate(1, 0),
+            sixteenths,
+            list_with_bad_box,
+        ] {
             assert_eq!(numbers(&mut session, call), [1, 0]);
         }
+        assert_eq!(numbers(&mut session, list(&[], 0)), [16, 0]);
     }
 
     #[test]

@@ -13,6 +13,10 @@ const ANSWERS: &[u8] = include_bytes!("answers");
 const DIPOLE: &str = include_str!("../../../examples/dipole.calls");
 const DIPOLE_ANSWERS: &str = include_str!("dipole_answers");
 
+/// Two lists of relay settings for the same card, and which is chosen.
+const DIPOLE_SETTINGS: &str = include_str!("../../../examples/dipole_settings.calls");
+const DIPOLE_SETTINGS_ANSWERS: &str = include_str!("dipole_settings_answers");
+
 const CARD: &str = "         1
          0         1        -3        -3
          1         3         0         2
@@ -60,7 +64,7 @@ fn expect(output: &Output, status: i32, stdout: &str, stderr: &str) {
 }
 
 const AT_THE_LAST_CARD: &str =
-    "replay: standard input, line 41, column 1: the input ends, and ten bytes of a number are due here\n";
+    "replay: standard input, line 49, column 1: the input ends, and ten bytes of a number are due here\n";
 
 #[test]
 fn answers_the_sample_in_pieces_of_any_size() {
@@ -78,6 +82,8 @@ fn runs_to_the_end() {
     let closed = format!("{CARD}         0\n");
     expect(&run(&[], &closed), 0, "         0         1\n", "");
     expect(&run(&[], DIPOLE), 0, DIPOLE_ANSWERS, "");
+    let chosen = run(&[], DIPOLE_SETTINGS);
+    expect(&chosen, 0, DIPOLE_SETTINGS_ANSWERS, "");
 }
 
 /// A fourth line behind the card, the column where it is wrong, and the words for it.
@@ -105,7 +111,7 @@ const FAULTS: [(&str, usize, &str); 6] = [
     (
         "        12\n",
         1,
-        "12 is no call: 1 to 7 are the calls, and 0 ends a case",
+        "12 is no call: 1 to 8 are the calls, and 0 ends a case",
     ),
     (
         "         5",
@@ -126,6 +132,52 @@ fn says_where_a_text_is_malformed() {
     let message = "the degree is 9, which is not 1 to 8\n";
     let message = format!("replay: standard input, line 1, column 1: {message}");
     expect(&output, 1, "        99         0\n", &message);
+}
+
+const LIST: &str = "         8         6       500         2\n";
+const RECORD: &str = "         0         4        -3         3     65535\n";
+
+/// The lines behind a list's first, the record that is wrong, its column, and the words for it.
+const LIST_FAULTS: [(&[&str], usize, usize, &str); 4] = [
+    (
+        &[RECORD],
+        1,
+        1,
+        "the input ends, and ten bytes of a number are due here",
+    ),
+    (
+        &[RECORD, "         0\n"],
+        1,
+        11,
+        "the line ends, and ten bytes of a number are due here",
+    ),
+    (
+        &["         0         4        -3         3     65536\n"],
+        0,
+        41,
+        "the setting number is 65536, which is not 0 to 65535",
+    ),
+    (
+        &["         02147483648        -3         3         7\n"],
+        0,
+        11,
+        "the box's high resistance is 2147483648, which is not -2147483648 to 2147483647",
+    ),
+];
+
+/// A list is one call: whichever of its lines is wrong, the run ends at the call's first byte.
+#[test]
+fn says_where_a_list_is_malformed() {
+    for (lines, index, column, what) in LIST_FAULTS {
+        let output = run(&[], &format!("{CARD}{LIST}{}", lines.concat()));
+        let answers = "         0         1\n        99        93\n";
+        let line = 5 + index;
+        let message = format!(
+            "replay: standard input, line {line}, column {column}: {what}, in record {index} \
+             (counted from 0) of 2\n"
+        );
+        expect(&output, 1, answers, &message);
+    }
 }
 
 #[test]
@@ -196,9 +248,12 @@ fn answers_each_line_before_the_next_one_comes() {
     assert_eq!(ask(&mut stdin, &mut stdout, CARD), "         0         1\n");
     let bounds = "         0         0         3        -3         2\n";
     assert_eq!(ask(&mut stdin, &mut stdout, "         5\n"), bounds);
+    let list = format!("{LIST}{}", RECORD.repeat(2));
+    let chosen = "         0         1         0     65535\n";
+    assert_eq!(ask(&mut stdin, &mut stdout, &list), chosen);
     assert_eq!(
         ask(&mut stdin, &mut stdout, "         4         \n"),
-        "        99       104\n"
+        "        99       247\n"
     );
     assert_eq!(child.wait().unwrap().code(), Some(1));
 }
