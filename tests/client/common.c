@@ -37,6 +37,9 @@ const char *meaning(uint32_t number)
     case 3: return "a low side is above its high side";
     case 4: return "den is not 1 to 65,536";
     case 5: return "num is above den";
+    case 7: return "a box side is out of range, or a low side is not below its high side";
+    case 8: return "depth is above 12";
+    case 9: return "budget is not 1 to 8,191";
     case 10: return "the card has fewer than 11 bytes, or not the length for its degree";
     case 11: return "a column is malformed, or a line does not end with byte 10";
     case 12: return "a buffer for the result is too short";
@@ -44,6 +47,7 @@ const char *meaning(uint32_t number)
                     "16,384 ohms";
     case 14: return "with the spread a side is out of range (16,384 ohms either way)";
     case 15: return "j is above 16";
+    case 16: return "the list of settings is empty or longer than 64";
     default: return "not a refusal of the calls that are used here";
     }
 }
@@ -63,11 +67,13 @@ void show_refusal(uint64_t answer)
     switch (number) {
     case 2:
     case 3: printf(", in rectangle %" PRIu32 "\n", place); break;
+    case 7: printf(", in box %" PRIu32 "\n", place); break;
     case 10: printf(", it has %" PRIu32 " bytes\n", place); break;
     case 11: printf(", at offset %" PRIu32 "\n", place); break;
     case 12: printf(", the length %" PRIu32 " is needed\n", place); break;
     case 13:
     case 14: printf(", %s\n", measured_number(place)); break;
+    case 16: printf(", it has %" PRIu32 " records\n", place); break;
     default: printf("\n"); break;
     }
 }

@@ -1,7 +1,8 @@
 /* Measures the stack of each call: the call runs on a stack of its own, filled with a pattern before, and what it
  * touched is what no longer holds the pattern. The pattern is another at every place of 256, since a call may copy what
- * it has not written, as the gaps of a record, from one place of its frame to another. Every call is made on every card with each pattern, the search so that
- * it reaches its greatest depth, and the bridge's call, which needs no card, on measurements of every form. Shows the
+ * it has not written, as the gaps of a record, from one place of its frame to another. Every call is made on every card
+ * with each pattern, the search so that it reaches its greatest depth, the choice of a setting so that it makes as many
+ * such walks as a list can have, and the bridge's call, which needs no card, on measurements of every form. Shows the
  * most bytes that each call took, and fails if the panel call took more than its bound.
  *
  * A number counts from the caller's frame down: the arguments that are passed on the stack with their alignment, the
@@ -11,6 +12,7 @@
 #include <inttypes.h>
 #include <stdio.h>
 #include <stdlib.h>
+#include <string.h>
 #include <ucontext.h>
 
 #include "common.h"
@@ -39,6 +41,8 @@ static const float *measured;
 static size_t measured_length;
 static uint32_t found;
 static uint32_t verdict[JUSQANI_VERDICT_LENGTH];
+static struct jusqani_setting settings[JUSQANI_MAX_SETTINGS];
+static uint32_t choice[JUSQANI_CHOICE_LENGTH];
 static uint8_t bytes[MAX_CARD_LENGTH];
 static uint64_t answer;
 
@@ -92,6 +96,13 @@ static void call_search(void)
                             MAX_BUDGET, verdict, JUSQANI_VERDICT_LENGTH);
 }
 
+static void call_choose_setting(void)
+{
+    COUNT_FROM_HERE;
+    answer = jusqani_choose_setting((uint32_t)curve[0], curve + 1, MAX_CURVE - 1, settings, JUSQANI_MAX_SETTINGS,
+                                    MAX_DEPTH, MAX_BUDGET, choice, JUSQANI_CHOICE_LENGTH);
+}
+
 static void call_enclose(void)
 {
     COUNT_FROM_HERE;
@@ -121,6 +132,7 @@ static const struct {
     {"elevate", call_elevate},
     {"bounds", call_bounds},
     {"search", call_search},
+    {"choose_setting", call_choose_setting},
     {"enclose", call_enclose},
     {"read_card", call_read_card},
     {"write_card", call_write_card},
@@ -162,17 +174,21 @@ static size_t touched(void (*call)(void), int pattern)
     return (size_t)(caller - (stack + kept));
 }
 
-/* The most bytes that each call took so far, and whether a search has reached its greatest depth. */
+/* The most bytes that each call took so far, and whether a search has reached its greatest depth on a curve for which
+ * no setting of the list fits, so that all of the list's walks reached it too. */
 static size_t most[CALLS];
 static int deepest;
 
 /* Makes every call once on a stack filled with a pattern. */
 static void measure_calls(int pattern)
 {
+    int deep = 0;
     for (size_t c = 0; c < CALLS; c++) {
         size_t took = touched(calls[c].call, pattern);
         most[c] = took > most[c] ? took : most[c];
-        if (calls[c].call == call_search && answer == 0 && verdict[1] == MAX_DEPTH)
+        if (calls[c].call == call_search)
+            deep = answer == 0 && verdict[1] == MAX_DEPTH;
+        if (calls[c].call == call_choose_setting && deep && answer == 0 && choice[0] == JUSQANI_NONE_FITS)
             deepest = 1;
     }
 }
@@ -205,6 +221,18 @@ static void measure_parameters(void)
     }
 }
 
+/* Sets the box of the search, and of every setting: a step wide at a corner of rectangle 0, so that the walk goes down
+ * to the piece at the curve's start. */
+static void set_limits(void)
+{
+    limits[0] = curve[1];
+    limits[1] = curve[1] + 1;
+    limits[2] = curve[3];
+    limits[3] = curve[3] + 1;
+    for (size_t k = 0; k < JUSQANI_MAX_SETTINGS; k++)
+        memcpy(settings[k].limits, limits, sizeof limits);
+}
+
 /* Reads a card, and the curve on it unless it is refused: then the curve before it stays. */
 static void take_card(const char *path)
 {
@@ -213,13 +241,8 @@ static void take_card(const char *path)
         exit(BAD_USAGE);
     }
     card_length = read_input(card);
-    if (jusqani_read_card(card, card_length, curve, MAX_CURVE) == 0) {
-        /* A box a step wide at a corner of rectangle 0: the search goes down to the piece at the curve's start. */
-        limits[0] = curve[1];
-        limits[1] = curve[1] + 1;
-        limits[2] = curve[3];
-        limits[3] = curve[3] + 1;
-    }
+    if (jusqani_read_card(card, card_length, curve, MAX_CURVE) == 0)
+        set_limits();
 }
 
 static void show(void)
@@ -241,7 +264,7 @@ int main(int argc, char **argv)
         measure_parameters();
     }
     if (!deepest)
-        fail("no search reached its greatest depth");
+        fail("no search and no list of settings reached its greatest depth");
     show();
     if (most[0] > PANEL_STACK_BOUND) {
         fprintf(stderr, "stack: the panel call took %zu bytes, its bound is %d\n", most[0], PANEL_STACK_BOUND);

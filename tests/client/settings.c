@@ -1,0 +1,137 @@
+/* Chooses a relay setting for a card's curve: shows the number of the first that fits and its record's index, or that
+ * none fits, or a refusal with its place. A box is four sides in steps, resistance low and high, reactance low and high.
+ * usage: settings [--choice LENGTH] DEPTH BUDGET [R-LOW R-HIGH X-LOW X-HIGH NUMBER]... < CARD */
+#include <errno.h>
+#include <inttypes.h>
+#include <stdio.h>
+#include <stdlib.h>
+#include <string.h>
+
+#include "common.h"
+#include "jusqani.h"
+
+#define MAX_CURVE JUSQANI_CURVE_LENGTH(8)
+#define MAX_CHOICE 6
+
+/* A record's arguments, and the most records that can be lent: more than the call takes. */
+#define RECORD_LENGTH 5
+#define MAX_LIST (JUSQANI_MAX_SETTINGS + 2)
+
+/* What the buffer holds before a call; no call stores it. */
+#define FILL UINT32_MAX
+
+/* The record's layout, as the header states it and the library reads it. */
+_Static_assert(sizeof(struct jusqani_setting) == 20, "a setting has 20 bytes");
+_Static_assert(_Alignof(struct jusqani_setting) == _Alignof(int32_t), "a setting is aligned as a side");
+
+static struct jusqani_setting settings[MAX_LIST];
+
+/* The side of a box that an argument gives; anything else ends the program. */
+static int32_t side(const char *text)
+{
+    char *end;
+    errno = 0;
+    long long number = strtoll(text, &end, 10);
+    if (end == text || *end != '\0' || errno != 0 || number < INT32_MIN || number > INT32_MAX) {
+        fprintf(stderr, "not a side: %s\n", text);
+        exit(BAD_USAGE);
+    }
+    return (int32_t)number;
+}
+
+static struct jusqani_setting setting(char **text)
+{
+    return (struct jusqani_setting){{side(text[0]), side(text[1]), side(text[2]), side(text[3])},
+                                    (uint16_t)argument(text[4], UINT16_MAX)};
+}
+
+/* Whether the buffer holds from a number on what it held before the call. */
+static int kept(const uint32_t *choice, size_t from)
+{
+    while (from < MAX_CHOICE && choice[from] == FILL)
+        from++;
+    return from == MAX_CHOICE;
+}
+
+/* The refusal of a list of so many records without a box, for a curve with such a first rectangle and zeros behind it,
+ * too deep, without a budget and with no room for a choice. */
+static uint32_t refused_all(size_t count, uint32_t degree, int32_t low, int32_t high)
+{
+    static const struct jusqani_setting no_boxes[JUSQANI_MAX_SETTINGS + 1];
+    const int32_t sides[JUSQANI_RECT_LENGTH] = {low, high, low, high};
+    uint32_t choice[MAX_CHOICE] = {FILL, FILL, FILL, FILL, FILL, FILL};
+    uint64_t answer = jusqani_choose_setting(degree, sides, JUSQANI_RECT_LENGTH, no_boxes, count, 13, 0, choice, 0);
+    require(kept(choice, 0), "a refused call changes nothing");
+    return JUSQANI_NUMBER(answer);
+}
+
+/* No card gives the curves that are refused, so the call is handed them: the list's length is tried before the curve,
+ * and the boxes after it. */
+static void check_order(void)
+{
+    require(refused_all(0, 9, 0, 0) == 16, "an empty list is refused before a degree");
+    require(refused_all(65, 9, 0, 0) == 16, "a long list is refused before a degree");
+    require(refused_all(64, 9, 0, 16777217) == 1, "a degree is refused before a side");
+    require(refused_all(64, 1, 1, 16777217) == 2, "a side out of range is refused before a box");
+    require(refused_all(64, 1, 1, 0) == 3, "a low side above its high side is refused before a box");
+    require(refused_all(64, 1, 0, 0) == 7, "a box is refused before depth, budget and the room for the choice");
+}
+
+/* Shows what was chosen. */
+static void show_choice(const uint32_t *choice, size_t count)
+{
+    if (choice[0] == JUSQANI_NONE_FITS) {
+        require(choice[1] == 0 && choice[2] == 0, "where none fits, index and number are 0");
+        printf("none fits\n");
+        return;
+    }
+    require(choice[0] == JUSQANI_FITS, "an accepted call finds that one fits or none");
+    require(choice[1] < count && choice[2] == settings[choice[1]].number, "the number is that of the record chosen");
+    printf("setting %" PRIu32 ", record %" PRIu32 "\n", choice[2], choice[1]);
+}
+
+/* Chooses from the first settings for the card on standard input, and shows what came. */
+static int choose(size_t count, uint32_t depth, uint32_t budget, size_t choice_length)
+{
+    static struct jusqani_setting before[MAX_LIST];
+    uint8_t card[MAX_CARD];
+    int32_t curve[MAX_CURVE];
+    uint32_t choice[MAX_CHOICE] = {FILL, FILL, FILL, FILL, FILL, FILL};
+    size_t card_length = read_input(card);
+    memcpy(before, settings, sizeof before);
+    uint64_t answer = jusqani_read_card(card, card_length, curve, MAX_CURVE);
+    if (answer == 0)
+        answer = jusqani_choose_setting((uint32_t)curve[0], curve + 1, (size_t)JUSQANI_CURVE_LENGTH(curve[0]) - 1,
+                                        settings, count, depth, budget, choice, choice_length);
+    require(memcmp(before, settings, sizeof before) == 0, "the list is unchanged");
+    require(kept(choice, answer == 0 ? JUSQANI_CHOICE_LENGTH : 0), "what lies past the choice is kept");
+    if (answer != 0) {
+        show_refusal(answer);
+        return REFUSED;
+    }
+    show_choice(choice, count);
+    return 0;
+}
+
+int main(int argc, char **argv)
+{
+    size_t choice_length = JUSQANI_CHOICE_LENGTH;
+    int first = 1;
+    if (argc > 2 && strcmp(argv[1], "--choice") == 0) {
+        choice_length = argument(argv[2], MAX_CHOICE);
+        first = 3;
+    }
+    int numbers = argc - first - 2;
+    if (numbers < 0 || numbers % RECORD_LENGTH != 0 || numbers / RECORD_LENGTH > MAX_LIST) {
+        fprintf(stderr, "usage: %s [--choice LENGTH] DEPTH BUDGET [R-LOW R-HIGH X-LOW X-HIGH NUMBER]... < CARD\n",
+                argv[0]);
+        return BAD_USAGE;
+    }
+    uint32_t depth = argument(argv[first], UINT32_MAX);
+    uint32_t budget = argument(argv[first + 1], UINT32_MAX);
+    size_t count = (size_t)(numbers / RECORD_LENGTH);
+    for (size_t k = 0; k < count; k++)
+        settings[k] = setting(argv + first + 2 + RECORD_LENGTH * k);
+    check_order();
+    return choose(count, depth, budget, choice_length);
+}
