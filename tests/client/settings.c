@@ -1,5 +1,5 @@
 /* Chooses a relay setting for a card's curve: shows the number of the first that fits and its record's index, or that
- * none fits, or a refusal with its place. A box is four sides in steps, resistance low and high, reactance low and high.
+ * none fits, or a refusal with its place. A box is four sides in steps: resistance low, high, reactance low, high.
  * usage: settings [--choice LENGTH] DEPTH BUDGET [R-LOW R-HIGH X-LOW X-HIGH NUMBER]... < CARD */
 #include <errno.h>
 #include <inttypes.h>
