@@ -179,8 +179,8 @@ static size_t touched(void (*call)(void), int pattern)
 static size_t most[CALLS];
 static int deepest;
 
-/* Makes every call once on a stack filled with a pattern. A list takes long and has no parameter, so that it is walked at
- * a card's first parameter alone. */
+/* Makes every call once on a stack filled with a pattern. A list takes long and has no parameter, so that it is walked
+ * at a card's first parameter alone. */
 static void measure_calls(int pattern, int at_first)
 {
     int deep = 0;
