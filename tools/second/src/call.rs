@@ -2,6 +2,7 @@
 
 use crate::model::Parameter;
 use crate::search::Search;
+use crate::settings::Settings;
 
 /// Which piece of a subdivision is kept.
 #[derive(Clone, Copy, PartialEq, Debug)]
@@ -10,8 +11,8 @@ pub enum Kept {
     Right,
 }
 
-/// A call; the paper's names are reading, second reading, cut, raising, span and walk.
-#[derive(Clone, Copy, PartialEq, Debug)]
+/// A call; the paper's names are reading, second reading, cut, raising, span, walk and fitted list.
+#[derive(Clone, PartialEq, Debug)]
 pub enum Call {
     Evaluate(Parameter),
     /// At j/16, by one sum.
@@ -20,4 +21,5 @@ pub enum Call {
     Elevate,
     Bounds,
     Search(Search),
+    ChooseSetting(Settings),
 }

@@ -17,6 +17,11 @@ pub enum Row {
     Bounds,
     Search,
     SearchLoads,
+    ChooseSetting,
+    SettingSearches,
+    SettingAppended,
+    SettingSwapped,
+    SettingLoads,
     NoCarrier,
     RandomLoads,
     RandomSpreads,
@@ -45,12 +50,13 @@ pub enum Row {
     ReplayExamples,
     ReplayTexts,
     ReplayDamaged,
+    ReplayRecords,
     ReplayLong,
     ReplaySlow,
 }
 
 /// Each row's name, and how many comparisons must agree.
-pub const ROWS: [(Row, &str, u64); 39] = [
+pub const ROWS: [(Row, &str, u64); 45] = [
     (Evaluate, "evaluate", 2_000_000),
     (Sixteenths, "evaluate_sixteenths", 1_000_000),
     (SixteenthsSides, "sixteenths, exact fractions", 100_000),
@@ -60,6 +66,11 @@ pub const ROWS: [(Row, &str, u64); 39] = [
     (Bounds, "bounds", 200_000),
     (Search, "search", 500_000),
     (SearchLoads, "search, loads by the verdict", 50_000),
+    (ChooseSetting, "choose_setting", 200_000),
+    (SettingSearches, "choose_setting, by searches", 30_000),
+    (SettingAppended, "choose_setting, records behind", 15_000),
+    (SettingSwapped, "choose_setting, two swapped", 10_000),
+    (SettingLoads, "choose_setting, loads in the box", 20_000),
     (NoCarrier, "enclose, no carrier", 2_000_000),
     (RandomLoads, "enclose, loads, any bits", 2_000_000),
     (RandomSpreads, "enclose, with spread, any bits", 2_000_000),
@@ -85,9 +96,10 @@ pub const ROWS: [(Row, &str, u64); 39] = [
     (CardLong, "card, long input", 5),
     (CardPlaces, "card, every place of a refusal", 76),
     (CardSlow, "card, slow pipe", 16),
-    (ReplayExamples, "replay, examples", 20),
+    (ReplayExamples, "replay, examples", 24),
     (ReplayTexts, "replay, texts", 100),
     (ReplayDamaged, "replay, damaged texts", 500),
+    (ReplayRecords, "replay, damaged lists of settings", 100),
     (ReplayLong, "replay, long texts", 1),
     (ReplaySlow, "replay, slow pipe, answers", 50),
 ];
@@ -149,6 +161,30 @@ pub enum Line {
     Verdicts,
     Pieces,
     BoxLoads,
+    SettingNumbers,
+    SettingChoice,
+    SettingLists,
+    SettingListsElse,
+    SettingCurves,
+    SettingNoBoxes,
+    SettingNoBoxElse,
+    SettingNoDepth,
+    SettingNoDepthElse,
+    SettingNoBudget,
+    SettingDepth,
+    SettingBudget,
+    SettingFits,
+    SettingNone,
+    SettingFitsDegree,
+    SettingNoneDegree,
+    SettingIndex,
+    SettingStored,
+    SettingBefore,
+    SettingPieces,
+    SettingNoneVerdicts,
+    SettingBehind,
+    SettingAgain,
+    SettingBoxLoads,
     MeasuredLent,
     NoCarrierNumbers,
     NoCarrierRect,
@@ -201,6 +237,8 @@ pub enum Line {
     Placed,
     ReplayFlags,
     ReplaySixteenths,
+    ReplayChoices,
+    ReplayRecordFaults,
 }
 
 /// Where an accepted parameter lies, and which limit of den it meets.
@@ -316,6 +354,38 @@ const FITS: Values = Words(&["one short", "exact", "one more"]);
 const EQUAL_FLAGS: Values = Words(&["rounded", "exact between 0 and 1", "exact at 0 or 1"]);
 /// In the order of false and true.
 const FLAGS: Values = Words(&["rounded", "exact"]);
+/// What a choice from a list of settings is given, and what it gives, in the order in which chosen.rs and
+/// fitted.rs count it.
+const NO_LISTS: Values = Words(&["0", "65", "66", "320", "1,000", "65,537", "65,600"]);
+const NO_LISTS_ELSE: Values = Words(&["curve", "box", "depth", "budget"]);
+const NO_BOX_ELSE: Values = Words(&[
+    "nothing else",
+    "another bad box behind",
+    "a record before that fits",
+    "bad depth",
+    "bad budget",
+]);
+const NO_DEPTHS: Values = Words(&["13", "14", "2^32 - 1"]);
+const NO_DEPTHS_ELSE: Values = Words(&["nothing else", "bad budget"]);
+const NO_BUDGETS: Values = Words(&["0", "8,192", "2^32 - 1"]);
+const BUDGETS: Values = Words(&["1", "2 to 8", "9 to 126", "127 to 8,190", "8,191"]);
+const STORED: Values = Words(&["0", "1 to 65,534", "65,535"]);
+const BEFORE_CHOSEN: Values = Words(&["Outside", "Spent", "Undecided", "all three"]);
+const CHOSEN_PIECES: Values = Words(&["1", "more"]);
+const BEHIND: Values = Words(&[
+    "none",
+    "some",
+    "as many as allowed",
+    "one more",
+    "a bad box",
+]);
+const AGAIN: Values = Words(&[
+    "none",
+    "another box",
+    "same box, another number",
+    "another box, same number",
+]);
+const CHOSEN_LOADS: Values = Words(&["within", "at a low side"]);
 /// The sides of a box that decide how the curve's bounds lie to it: which side, and whether the bounds start
 /// or end there.
 const EDGES: Values = Words(&[
@@ -405,18 +475,27 @@ const REPLAY_FLAGS: Values = Words(&[
     "cut or raising exact",
 ]);
 const REPLAY_J: Values = Words(&["0", "1 to 15", "16", "above 16"]);
+const REPLAY_CHOICES: Values = Words(&["fits", "none fits", "16"]);
+const REPLAY_RECORDS: Values = Words(&[
+    "call line",
+    "a record's side",
+    "a record's number",
+    "a record's line end",
+    "behind the records",
+    "nowhere",
+]);
 
 /// The words for the lines of flags by degree.
 const ROUNDED: &str = "rounded by degree";
 const TRIVIAL: &str = "exact by degree, at 0 or 1 or of one rectangle";
 const EXACT: &str = "exact by degree, others";
 /// The refusals that a call has before it tries its buffers.
-const OTHERS: Values = These(&[1, 2, 3, 4, 5, 6, 7, 8, 9, 10, 11, 13, 14, 15]);
+const OTHERS: Values = These(&[1, 2, 3, 4, 5, 6, 7, 8, 9, 10, 11, 13, 14, 15, 16]);
 
 /// The lines by what they are about: what is counted, the values and how often each must come.
 type Group = (&'static str, &'static [(Line, &'static str, Values, u64)]);
 
-pub const GROUPS: [Group; 14] = [
+pub const GROUPS: [Group; 15] = [
     (
         "curves given",
         &[
@@ -587,6 +666,71 @@ pub const GROUPS: [Group; 14] = [
         ],
     ),
     (
+        "choose_setting",
+        &[
+            (
+                SettingNumbers,
+                "answers",
+                These(&[0, 1, 2, 3, 7, 8, 9, 12, 16]),
+                2_000,
+            ),
+            (SettingChoice, "choice lent", Span(0, 7), 1_000),
+            (SettingLists, "lengths refused", NO_LISTS, 10),
+            (
+                SettingListsElse,
+                "lengths refused, bad too",
+                NO_LISTS_ELSE,
+                200,
+            ),
+            (
+                SettingCurves,
+                "refusals of the curve, a bad box too",
+                These(&[1, 2, 3]),
+                500,
+            ),
+            // The twelve ways to be no box of record 0, then of record 1, and so on.
+            (
+                SettingNoBoxes,
+                "bad boxes by record and way",
+                Span(0, 767),
+                20,
+            ),
+            (
+                SettingNoBoxElse,
+                "bad boxes, beside them",
+                NO_BOX_ELSE,
+                2_000,
+            ),
+            (SettingNoDepth, "depths refused", NO_DEPTHS, 500),
+            (
+                SettingNoDepthElse,
+                "depths refused, bad too",
+                NO_DEPTHS_ELSE,
+                500,
+            ),
+            (SettingNoBudget, "budgets refused", NO_BUDGETS, 500),
+            (SettingDepth, "accepted by depth limit", Span(0, 12), 500),
+            (SettingBudget, "accepted by budget", BUDGETS, 5_000),
+            (SettingFits, "fits by length", Span(1, 64), 300),
+            (SettingNone, "none fits by length", Span(1, 64), 40),
+            (SettingFitsDegree, "fits by degree", Span(1, 8), 5_000),
+            (SettingNoneDegree, "none fits by degree", Span(1, 8), 2_000),
+            (SettingIndex, "index chosen", Span(0, 63), 20),
+            (SettingStored, "number chosen", STORED, 1_000),
+            (SettingBefore, "verdicts before", BEFORE_CHOSEN, 500),
+            (SettingPieces, "pieces of the chosen", CHOSEN_PIECES, 2_000),
+            (
+                SettingNoneVerdicts,
+                "verdicts where none fits",
+                BEFORE_CHOSEN,
+                100,
+            ),
+            (SettingBehind, "put behind the chosen", BEHIND, 2_000),
+            (SettingAgain, "others that fit behind", AGAIN, 1_000),
+            (SettingBoxLoads, "loads in the box", CHOSEN_LOADS, 5_000),
+        ],
+    ),
+    (
         "enclose",
         &[
             (MeasuredLent, "numbers lent", Span(0, 7), 100_000),
@@ -740,6 +884,13 @@ pub const GROUPS: [Group; 14] = [
             (Placed, "replay, places", PLACED, 100),
             (ReplayFlags, "replay, exact flags", REPLAY_FLAGS, 100),
             (ReplaySixteenths, "replay, j", REPLAY_J, 20),
+            (ReplayChoices, "replay, settings", REPLAY_CHOICES, 20),
+            (
+                ReplayRecordFaults,
+                "replay, damaged settings",
+                REPLAY_RECORDS,
+                5,
+            ),
         ],
     ),
 ];
@@ -764,6 +915,7 @@ impl Values {
 mod tests {
     use super::*;
     use crate::draw::{REFUSED_DEGREES, REFUSED_SIXTEENTHS};
+    use crate::records::{REFUSED_BUDGETS, REFUSED_DEPTHS, REFUSED_LENGTHS};
 
     #[test]
     fn has_every_row_and_line_once() {
@@ -772,8 +924,11 @@ mod tests {
         let lines = GROUPS.iter().flat_map(|(_, lines)| lines.iter());
         assert!(lines
             .map(|(line, ..)| *line as usize)
-            .eq(0..=ReplaySixteenths as usize));
+            .eq(0..=ReplayRecordFaults as usize));
         assert_eq!(REFUSED.named().len(), REFUSED_DEGREES.len());
         assert_eq!(BEYOND.named().len(), REFUSED_SIXTEENTHS.len());
+        assert_eq!(NO_LISTS.named().len(), REFUSED_LENGTHS.len());
+        assert_eq!(NO_DEPTHS.named().len(), REFUSED_DEPTHS.len());
+        assert_eq!(NO_BUDGETS.named().len(), REFUSED_BUDGETS.len());
     }
 }

@@ -60,7 +60,7 @@ fn lengthen(rng: &mut Rng, text: &mut Vec<u8>) {
 }
 
 /// Columns that are malformed, and well-formed ones on both sides of a limit.
-const COLUMNS: [&[u8; COLUMN]; 26] = [
+pub const COLUMNS: [&[u8; COLUMN]; 26] = [
     b"9999999999",
     b"-999999999",
     b"  16777216",

@@ -4,6 +4,7 @@ use crate::call::{Call, Kept};
 use crate::given::{Given, MAX_SIDES};
 use crate::grid::Grid;
 use crate::model::{Curve, Parameter, Rectangle, MAX_DEGREE, MAX_DEN, MAX_SIDE};
+use crate::records;
 use crate::rng::Rng;
 use crate::search::{Search, MAX_BUDGET, MAX_DEPTH};
 use crate::sixteenths::SIXTEENTHS;
@@ -200,6 +201,12 @@ pub fn list(rng: &mut Rng, bounds: &Rectangle, grid: Option<Grid>) -> Vec<Call> 
     calls
 }
 
+/// Puts a choice from a list of settings somewhere among the calls.
+pub fn put_choice(rng: &mut Rng, bounds: &Rectangle, calls: &mut Vec<Call>) {
+    let choice = Call::ChooseSetting(records::settings(rng, bounds));
+    calls.insert(rng.up_to(calls.len()), choice);
+}
+
 /// Either reading, one in four of them by one sum.
 fn reading(rng: &mut Rng, grid: Option<Grid>) -> Call {
     if rng.one_in(4) {
@@ -252,8 +259,11 @@ fn search(rng: &mut Rng, bounds: &Rectangle) -> Search {
     }
 }
 
+/// The bounds about which boxes are drawn for a curve that has none.
+pub const NO_BOUNDS: Rectangle = [-9, 9, -9, 9];
+
 /// A box near the bounds of the curve, so that every verdict comes; one in eight may be empty.
-fn limits(rng: &mut Rng, bounds: &Rectangle) -> Rectangle {
+pub fn limits(rng: &mut Rng, bounds: &Rectangle) -> Rectangle {
     let style = rng.below(8);
     let filled = !rng.one_in(8);
     let mut limits = [0; 4];

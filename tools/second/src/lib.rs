@@ -22,15 +22,20 @@ pub mod draw;
 pub mod given;
 pub mod grid;
 pub mod pattern;
+pub mod records;
 pub mod rng;
 pub mod sums;
 
 // What is compared.
 pub mod calls;
 pub mod cards;
+pub mod choices;
+pub mod chosen;
 pub mod enclosed;
+pub mod fitted;
 pub mod flags;
 pub mod lent;
+pub mod lent_list;
 pub mod lists;
 pub mod measured;
 pub mod panel;

@@ -2,23 +2,23 @@
 //! the readings gave.
 
 use crate::call::{Call, Kept};
+use crate::choices;
 use crate::claim::{claim, Ordinary};
 use crate::coverage::{Before, Line, Row};
-use crate::draw::{self, REFUSED_DEGREES};
+use crate::draw::{self, NO_BOUNDS, REFUSED_DEGREES};
 use crate::given::Given;
 use crate::grid::Grid;
 use crate::ledger::{Entry, Ledger};
 use crate::model::{Curve, Flagged, Rectangle, MAX_SIDE};
 use crate::trial::{Outcome, Trial, SHORT};
 
-/// Demand 3 is tried on one in so many lists.
+/// Demand 3 is tried on one in so many lists, and one in so many has a choice among its calls.
 const CLAIMED: u64 = 6;
+const CHOICES: u64 = 20;
 /// Where the first readings and the second ones are counted: by the changes before, by those refused, and
 /// where nothing was rounded by the changes before.
 const STAGED: [Line; 3] = [Line::Changes, Line::Refusals, Line::ExactReadings];
 const SUMMED: [Line; 3] = [Line::SummedChanges, Line::SummedRefusals, Line::SummedExact];
-/// The bounds about which boxes are drawn for a curve that has none.
-const NO_BOUNDS: Rectangle = [-9, 9, -9, 9];
 
 /// What a list holds between two calls: the curve left, the ledger where the starting curve is accepted,
 /// how many subdivisions and elevations were accepted and refused, and whether some accepted one rounded.
@@ -57,8 +57,12 @@ pub fn compare(trial: &mut Trial, degree: usize) -> Result<(), String> {
     let given = draw::given(trial.rng, degree, grid);
     let start = given.curve();
     let bounds = start.bounds();
-    let calls = draw::list(trial.rng, &bounds.unwrap_or(NO_BOUNDS), grid);
+    let about = bounds.unwrap_or(NO_BOUNDS);
+    let mut calls = draw::list(trial.rng, &about, grid);
     count_start(trial, &given, &start, calls.len());
+    if trial.rng.one_in(CHOICES) {
+        draw::put_choice(trial.rng, &about, &mut calls);
+    }
     let ledger = bounds.ok().map(|_| Ledger::open(&start));
     let mut list = List {
         given,
@@ -131,6 +135,7 @@ fn step(trial: &mut Trial, list: &mut List, call: &Call) -> Result<Option<Evalua
         }
         Call::Bounds => trial.bounds(&list.given)?,
         Call::Search(search) => trial.search(&list.given, search)?,
+        Call::ChooseSetting(settings) => choices::compare(trial, &list.given, settings)?,
     }
     Ok(None)
 }

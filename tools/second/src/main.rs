@@ -10,11 +10,13 @@ use second::cards::MAX_CARD_LENT;
 use second::model::MAX_DEGREE;
 use second::parts::{in_parts, SEED};
 use second::pattern::{FIELDS, SPECIALS};
-use second::programs::{card, examples, replay, slow};
+use second::programs::{card, examples, records, replay, slow};
+use second::records::REFUSED_LENGTHS;
 use second::rng::Rng;
+use second::settings::MAX_RECORDS;
 use second::tally::Tally;
 use second::trial::Trial;
-use second::{cards, lists, measured, panel, summed};
+use second::{cards, choices, lists, measured, panel, summed};
 use std::path::{Path, PathBuf};
 use std::process::ExitCode;
 use std::time::Instant;
@@ -31,11 +33,19 @@ const WRITTEN_EACH: usize = 80;
 const PANEL_CALLS: usize = 1_000_000;
 /// Measurements of each form with any bits, and as many loads that are drawn.
 const MEASURED: usize = 2_000_000;
+/// How often lists of settings are planned and drawn of each length, and how often with a bad box at each
+/// place.
+const PLANNED_LISTS: usize = 40;
+const DRAWN_LISTS: usize = 800;
+const BAD_LISTS: usize = 8;
+/// Lists of each length that is refused.
+const REFUSED_LISTS: usize = 16;
 const PARTS: usize = 100;
 /// Runs of the programs, each in a process of its own.
 const CARDS_PRINTED: usize = 600;
 const TEXTS: usize = 60;
 const DAMAGED_TEXTS: usize = 600;
+const DAMAGED_LISTS: usize = 200;
 const SLOW_CASES: usize = 16;
 
 fn main() -> ExitCode {
@@ -87,7 +97,32 @@ fn run_library(tally: &mut Tally) -> Result<(), String> {
             .take(MAX_DEGREE * SUMMED_OF_EACH_DEGREE / PARTS);
         degrees.try_for_each(|degree| summed::compare(&mut trial(rng, tally), degree))
     })?;
+    run_settings(tally)?;
     run_bridge(tally)
+}
+
+/// Every comparison of the choice from a list of settings.
+fn run_settings(tally: &mut Tally) -> Result<(), String> {
+    in_parts(14, MAX_RECORDS, tally, |part, rng, tally| {
+        let mut degrees = (1..=MAX_DEGREE).cycle().skip(part).take(PLANNED_LISTS);
+        let length = part + 1;
+        degrees.try_for_each(|n| choices::compare_planned(&mut trial(rng, tally), n, length))
+    })?;
+    in_parts(15, MAX_RECORDS + 1, tally, |length, rng, tally| {
+        let mut degrees = (1..=MAX_DEGREE).cycle().take(DRAWN_LISTS);
+        degrees.try_for_each(|n| choices::compare_drawn(&mut trial(rng, tally), n, length))
+    })?;
+    in_parts(19, REFUSED_LENGTHS.len(), tally, |part, rng, tally| {
+        let (mut times, length) = (0..REFUSED_LISTS, REFUSED_LENGTHS[part]);
+        times.try_for_each(|_| choices::compare_drawn(&mut trial(rng, tally), 1, length))
+    })?;
+    in_parts(16, MAX_RECORDS, tally, |place, rng, tally| {
+        let mut times = 0..BAD_LISTS;
+        times.try_for_each(|_| choices::compare_no_boxes(&mut trial(rng, tally), place))
+    })?;
+    in_parts(17, MAX_DEGREE, tally, |part, rng, tally| {
+        choices::compare_whole_budget(&mut trial(rng, tally), part + 1)
+    })
 }
 
 /// Every comparison of the bridge's call: along the limits, and drawn.
@@ -122,6 +157,9 @@ fn run_programs(replay_path: &Path, card_path: &Path, tally: &mut Tally) -> Resu
     })?;
     in_parts(7, DAMAGED_TEXTS, tally, |_, rng, tally| {
         replay::compare_damaged(replay_path, rng, tally)
+    })?;
+    in_parts(18, DAMAGED_LISTS, tally, |_, rng, tally| {
+        records::compare_damaged(replay_path, rng, tally)
     })?;
     in_parts(8, SLOW_CASES, tally, |_, rng, tally| {
         slow::compare_card(card_path, rng, tally)?;

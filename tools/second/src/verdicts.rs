@@ -29,13 +29,27 @@ impl Trial<'_> {
         if !self.rng.one_in(TRIED) {
             return Ok(());
         }
+        let counted = (Row::SearchLoads, Line::BoxLoads);
+        self.try_loads(counted, given, limits, [number, depth, index])
+    }
+
+    /// Tries a verdict's number on the stretch of its piece; the comparisons are counted in a row, and the
+    /// loads in a line.
+    pub fn try_loads(
+        &mut self,
+        counted: (Row, Line),
+        given: &Given,
+        limits: &Rectangle,
+        verdict: [u32; 3],
+    ) -> Result<(), String> {
+        let [number, depth, index] = verdict;
         let curve = given.curve();
         let inside = Ordinary::some_inside(&curve, self.rng);
         for part in [0, 1 + self.rng.up_to(PARTS as usize - 2) as u32, PARTS] {
             let (upper, lower) = (index * PARTS + part, PARTS << depth);
             let weights = Bernstein::at(curve.degree, &upper.into(), &lower.into());
             let loads = inside.iter().map(|o| weights.load_beside(o, limits));
-            self.compare_loads(number, loads, || {
+            self.compare_loads(counted, number, loads, || {
                 format!("{given}\nlimits {limits:?}, verdict {verdict:?}, at {upper}/{lower}")
             })?;
         }
@@ -44,6 +58,7 @@ impl Trial<'_> {
 
     fn compare_loads(
         &mut self,
+        (row, line): (Row, Line),
         number: u32,
         loads: impl Iterator<Item = [Ordering; 4]>,
         input: impl FnOnce() -> String,
@@ -51,9 +66,9 @@ impl Trial<'_> {
         let mut agree = true;
         for load in loads {
             agree &= is_in_box(load) == (number == INSIDE);
-            self.tally.cover(Line::BoxLoads, kind(load) as usize);
+            self.tally.cover(line, kind(load) as usize);
         }
-        self.tally.compare(Row::SearchLoads, agree, input)
+        self.tally.compare(row, agree, input)
     }
 }
 

@@ -13,7 +13,7 @@ pub const PRINTED: &[u8] = b"         0         3        -3         2
          0         2        -2         0
 ";
 
-const EXAMPLES: [(&str, &str); 20] = [
+const EXAMPLES: [(&str, &str); 24] = [
     // The card read at 1/2 and at 2/4, its two ends and its bounds.
     (
         "1 / 0 1 -3 -3 / 1 3 0 2 / 1 1 2 / 1 2 4 / 1 0 1 / 1 7 7 / 5 / 0",
@@ -74,6 +74,25 @@ const EXAMPLES: [(&str, &str); 20] = [
     (
         "1 / 0 0 0 0 / 4 4 0 0 / 6 1 0 0 1 13 0 / 6 1 1 0 1 13 0 / 6 0 1 0 0 13 0 / 6 0 1 0 1 13 0 / 6 0 1 0 1 12 0 / 6 0 1 0 1 12 8192 / 0",
         "0 1 / 7 0 / 7 0 / 7 0 / 8 0 / 9 0 / 9 0",
+    ),
+    // Settings: Outside, then Inside; Spent alone; and of two that fit the first.
+    (
+        "1 / 0 0 0 0 / 4 4 0 0 / 8 2 5 2 / 0 2 0 1 7 / 0 5 0 1 9 / 8 2 4 1 / 0 2 0 1 7 / 8 0 1 2 / 0 5 0 1 65535 / 0 5 0 1 0 / 0",
+        "0 1 / 0 1 1 9 / 0 2 0 0 / 0 1 0 65535",
+    ),
+    // The second record's search has the whole budget too, though the first looked at all 8,191 pieces.
+    (
+        "1 / -1 1 -1 1 / -1 1 -1 1 / 8 12 8191 2 / 0 1 0 1 1 / -1 2 -1 2 2 / 0",
+        "0 1 / 0 1 1 2",
+    ),
+    // The refusals of settings in their order; a box behind one that fits is bad too.
+    (
+        "1 / 0 0 0 0 / 4 4 0 0 / 8 13 0 0 / 8 13 0 2 / 0 5 0 1 7 / 0 5 0 0 7 / 8 13 0 1 / 0 5 0 1 7 / 8 12 0 1 / 0 5 0 1 7 / 8 12 8192 1 / 0 5 0 1 7 / 0",
+        "0 1 / 16 0 / 7 1 / 8 0 / 9 0 / 9 0",
+    ),
+    (
+        "1 / 0 1 0 0 / 1 0 0 0 / 8 0 1 0 / 8 13 0 1 / 1 0 0 0 7 / 0",
+        "3 1 / 16 0 / 1 0",
     ),
     // Raising stops at degree 8, and a refused call leaves the curve and the ledger.
     (

@@ -50,7 +50,10 @@ pub fn compare_cases(program: &Path, rng: &mut Rng, tally: &mut Tally) -> Result
     }
     let answers = answers_to(&text, true).lines;
     let lines = answers.split(|byte| *byte == LINE_END);
-    lines.for_each(|line| count_line(line, tally));
+    for line in lines {
+        count_line(line, tally);
+        count_choice(line, tally);
+    }
     let calls = text.split(|byte| *byte == LINE_END);
     calls.for_each(|line| count_sixteenth(line, tally));
     Ok(())
@@ -110,8 +113,11 @@ fn cases_text(cases: usize, rng: &mut Rng) -> Vec<u8> {
     (0..cases).flat_map(|_| text_of(&case(rng))).collect()
 }
 
-/// The bytes of an evaluation's answer; those with rectangles are longer, all others are shorter.
+/// The bytes of an evaluation's answer; those with rectangles are longer, all others are shorter. Those of a
+/// choice from a list of settings, and of a refusal.
 const EVALUATED: usize = 7 * COLUMN;
+const CHOSEN: usize = 4 * COLUMN;
+const REFUSED: usize = 2 * COLUMN;
 
 /// Counts an answer with an exact flag by the flag in its last column, and an evaluation by whether its
 /// place is shown or too long.
@@ -124,6 +130,18 @@ fn count_line(line: &[u8], tally: &mut Tally) {
     } else if line.len() > EVALUATED {
         tally.cover(Line::ReplayFlags, 2 + lit(line.len()));
     }
+}
+
+/// Counts the answer to a choice: fits, none fits, or the refusal of its list, which no other call has.
+fn count_choice(line: &[u8], tally: &mut Tally) {
+    let number = |k: usize| number_of(&line[COLUMN * k..COLUMN * (k + 1)]);
+    let kind = match line.len() {
+        CHOSEN => number(1).map(|found| found as usize - 1),
+        REFUSED => number(0).filter(|number| *number == 16).map(|_| 2),
+        _ => None,
+    };
+    kind.into_iter()
+        .for_each(|kind| tally.cover(Line::ReplayChoices, kind));
 }
 
 /// Counts the j of a second reading, whose call line is the only one of two columns.
@@ -140,7 +158,7 @@ fn count_sixteenth(line: &[u8], tally: &mut Tally) {
     tally.cover(Line::ReplaySixteenths, kind);
 }
 
-fn compare(
+pub fn compare(
     program: &Path,
     text: &[u8],
     places: bool,

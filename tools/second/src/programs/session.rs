@@ -2,6 +2,7 @@
 
 use crate::call::{Call, Kept};
 use crate::card::line_of;
+use crate::door::choice_of;
 use crate::ledger::{Entry, Ledger};
 use crate::model::{Curve, Flagged, Rectangle, Refusal};
 use crate::natural::common_divisor;
@@ -67,6 +68,10 @@ impl Session {
             }
             Call::Bounds => answer.extend(self.curve.bounds()?),
             Call::Search(search) => answer.extend(search.over(&self.curve)?.map(i64::from)),
+            Call::ChooseSetting(settings) => {
+                let chosen = settings.choose(&self.curve)?;
+                answer.extend(choice_of(chosen).map(i64::from));
+            }
         }
         Ok(line_of(&answer))
     }

@@ -2,12 +2,13 @@
 
 use crate::call::{Call, Kept};
 use crate::card::{card_of, line_of, number_of, COLUMN, LINE_END};
-use crate::draw::{curve_on, degree, list, spoil, TOO_FAR_FOR_A_CARD};
+use crate::draw::{curve_on, degree, list, put_choice, spoil, TOO_FAR_FOR_A_CARD};
 use crate::grid::Grid;
 use crate::model::{Curve, Parameter, MAX_DEGREE};
 use crate::programs::session::Session;
 use crate::rng::Rng;
 use crate::search::Search;
+use crate::settings::{Record, Settings};
 use std::ops::RangeInclusive;
 
 /// The first column of the line that ends a run at a bad card or call line.
@@ -20,19 +21,23 @@ pub struct Case {
     pub calls: Vec<Call>,
 }
 
-/// A drawn case; one card in twelve is spoilt.
+/// A drawn case; one in three has a choice from a list of settings, and one card in twelve is spoilt.
 pub fn case(rng: &mut Rng) -> Case {
     let degree = degree(rng);
     let grid = Grid::drawn(rng, degree);
     let mut card = curve_on(rng, degree, grid);
-    let calls = list(rng, &card.bounds().expect("an accepted curve"), grid);
+    let bounds = card.bounds().expect("an accepted curve");
+    let mut calls = list(rng, &bounds, grid);
+    if rng.one_in(3) {
+        put_choice(rng, &bounds, &mut calls);
+    }
     if rng.one_in(12) {
         spoil(rng, &mut card, &TOO_FAR_FOR_A_CARD);
     }
     Case { card, calls }
 }
 
-/// A call line.
+/// A call's line, and those of the records behind it where it is given some.
 pub fn call_line(call: &Call) -> Vec<u8> {
     let with_parameter = |kind, t: &Parameter| line_of(&[kind, t.num.into(), t.den.into()]);
     match call {
@@ -46,7 +51,20 @@ pub fn call_line(call: &Call) -> Vec<u8> {
             line_of(&[&[6], &search.limits[..], &last].concat())
         }
         Call::EvaluateSixteenths(j) => line_of(&[7, (*j).into()]),
+        Call::ChooseSetting(settings) => settings_lines(settings),
     }
+}
+
+fn settings_lines(settings: &Settings) -> Vec<u8> {
+    let Settings {
+        records,
+        depth,
+        budget,
+    } = settings;
+    let first = [8, (*depth).into(), (*budget).into(), records.len() as i64];
+    let columns = |record: &Record| [&record.limits[..], &[record.number.into()]].concat();
+    let records = records.iter().flat_map(|record| line_of(&columns(record)));
+    line_of(&first).into_iter().chain(records).collect()
 }
 
 /// A case as text: the card, the call lines, and the line that ends it.
@@ -94,8 +112,9 @@ struct Reader<'a> {
 
 /// The numbers that a column may have.
 const DEGREE: RangeInclusive<i64> = 1..=MAX_DEGREE as i64;
-const KIND: RangeInclusive<i64> = 0..=7;
+const KIND: RangeInclusive<i64> = 0..=8;
 const WORD: RangeInclusive<i64> = 0..=u32::MAX as i64;
+const SETTING: RangeInclusive<i64> = 0..=u16::MAX as i64;
 const BOX_SIDE: RangeInclusive<i64> = i32::MIN as i64..=i32::MAX as i64;
 const ANY: RangeInclusive<i64> = i64::MIN..=i64::MAX;
 
@@ -152,11 +171,29 @@ impl Reader<'_> {
             4 => self.line([KIND]).map(|_| Call::Elevate)?,
             5 => self.line([KIND]).map(|_| Call::Bounds)?,
             6 => Call::Search(self.search()?),
-            _ => {
+            7 => {
                 let [_, j] = self.line([KIND, WORD])?;
                 Call::EvaluateSixteenths(j as u32)
             }
+            _ => Call::ChooseSetting(self.settings()?),
         }))
+    }
+
+    /// A list of settings: a line for the call, then one for each record.
+    fn settings(&mut self) -> Result<Settings, Fault> {
+        let [_, depth, budget, count] = self.line([KIND, WORD, WORD, WORD])?;
+        let mut records = Vec::new();
+        for _ in 0..count {
+            let columns = [BOX_SIDE, BOX_SIDE, BOX_SIDE, BOX_SIDE, SETTING];
+            let [limits @ .., number] = self.line(columns)?;
+            let number = number as u16;
+            records.push(Record { limits, number });
+        }
+        Ok(Settings {
+            records,
+            depth: depth as u32,
+            budget: budget as u32,
+        })
     }
 
     fn parameter(&mut self) -> Result<Parameter, Fault> {
@@ -251,8 +288,12 @@ mod tests {
         let sound = line_of(&[0, 1]);
         let after = |line: &[u8]| answers_to(&[&card, line].concat(), false);
         assert_eq!(after(b""), whole(sound.clone()));
-        let bad: [(&[u8], usize); 12] = [
-            (&line_of(&[8]), 1),
+        let bad: [(&[u8], usize); 16] = [
+            (&line_of(&[9]), 1),
+            (&line_of(&[8]), 11),
+            (&line_of(&[8, 1, -1, 1]), 21),
+            (&line_of(&[8, 1, 1, 4_294_967_296]), 31),
+            (&line_of(&[8, 1, 1, 1, 1]), 41),
             (&line_of(&[7]), 11),
             (&line_of(&[7, -1]), 11),
             (&line_of(&[7, 8, 16]), 21),
@@ -272,6 +313,35 @@ mod tests {
                 "{line:?}"
             );
         }
+    }
+
+    /// The call begins at its own line, whichever record is bad.
+    #[test]
+    fn ends_the_run_at_a_bad_record() {
+        let card = text(&CARD);
+        let record: [i64; 5] = [0, 4, -3, 3, 65_535];
+        let after = |count, records: &[&[i64]]| {
+            let call = line_of(&[8, 0, 1, count]);
+            answers_to(&[card.clone(), call, text(records)].concat(), false)
+        };
+        let answered = text(&[&[0, 1], &[0, 1, 0, 65_535]]);
+        assert_eq!(after(1, &[&record]), whole(answered.clone()));
+        assert_eq!(after(0, &[]), whole(text(&[&[0, 1], &[16, 0]])));
+        let bad: [(&[&[i64]], usize, usize); 6] = [
+            (&[], 5, 1),
+            (&[&record], 6, 1),
+            (&[&record, &[0, 1, 0, 1, 65_536]], 6, 41),
+            (&[&record, &[0, 1, 0, 1, -1]], 6, 41),
+            (&[&[0, 2_147_483_648, 0, 1, 1], &record], 5, 11),
+            (&[&[0, 1, 0, 1, 1, 1], &record], 5, 51),
+        ];
+        for (records, line, column) in bad {
+            let expected = stopped(line_of(&[0, 1]), 93, line, column);
+            assert_eq!(after(2, records), expected, "{records:?}");
+        }
+        // A record too many is taken for a call line.
+        let expected = stopped(answered, 93 + 41 + 51, 6, 11);
+        assert_eq!(after(1, &[&record, &record]), expected);
     }
 
     #[test]
