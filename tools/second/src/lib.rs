@@ -58,4 +58,8 @@ mod faults;
 #[cfg(test)]
 mod flag_faults;
 #[cfg(test)]
+mod settings_answer_faults;
+#[cfg(test)]
+mod settings_faults;
+#[cfg(test)]
 mod sixteenth_faults;
