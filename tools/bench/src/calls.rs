@@ -1,8 +1,9 @@
 //! The calls that are timed, each on the same input and with buffers of its own, and how the sides and the
 //! flag of its result are read off its buffers. Only the calls are timed. The limit has no result to read.
 
-use crate::{plain, plain_enclose, plain_sixteenths};
-use jusqani::{raw, CURVE_LENGTH, MAX_DEGREE, PLACES, RECT_LENGTH};
+use crate::lists::{BUDGET, DEPTH};
+use crate::{plain, plain_enclose, plain_settings, plain_sixteenths};
+use jusqani::{raw, Setting, CHOICE_LENGTH, CURVE_LENGTH, MAX_DEGREE, PLACES, RECT_LENGTH};
 
 /// The sides of a curve of the highest degree, and of the two pieces of one.
 pub const CURVE_SIDES: usize = RECT_LENGTH * PLACES;
@@ -22,22 +23,30 @@ pub struct AtSixteenth {
     pub j: u32,
 }
 
+/// What both sides are given to choose a setting: a curve of the highest degree and a list.
+pub struct Listed {
+    pub sides: [i32; CURVE_SIDES],
+    pub settings: Vec<Setting>,
+}
+
 /// What both sides are given to enclose: a resistance and a reactance in ohms, with or without a spread.
 pub type Measured<const NUMBERS: usize> = [f32; NUMBERS];
 pub const PLAIN_LOAD: usize = 2;
 pub const WITH_SPREAD: usize = 3;
 
 /// The buffers for the results: ours are as include/jusqani.h has them, plain Rust's are sides, and at a
-/// sixteenth ohms too. Each has a flag of its own, which tells whether the result is exact, or what was
+/// sixteenth ohms too; a choice is alike on both sides. Each has a flag of its own, which tells whether the result is exact, or what was
 /// found. The limit stores where plain Rust does.
 pub struct Buffers {
     load: [i32; RECT_LENGTH],
     ohms: [f32; RECT_LENGTH],
     left: [i32; CURVE_LENGTH],
     right: [i32; CURVE_LENGTH],
+    choice: [u32; CHOICE_LENGTH],
     flag: u32,
     plain: [i32; PIECES_SIDES],
     plain_ohms: [f32; RECT_LENGTH],
+    plain_choice: [u32; CHOICE_LENGTH],
     plain_flag: u32,
 }
 
@@ -50,9 +59,11 @@ impl Buffers {
         ohms: [0.0; RECT_LENGTH],
         left: [0; CURVE_LENGTH],
         right: [0; CURVE_LENGTH],
+        choice: [0; CHOICE_LENGTH],
         flag: NO_FLAG,
         plain: [0; PIECES_SIDES],
         plain_ohms: [0.0; RECT_LENGTH],
+        plain_choice: [0; CHOICE_LENGTH],
         plain_flag: NO_FLAG,
     };
 }
@@ -141,6 +152,28 @@ pub const SUBDIVIDE: Operation<Input> = Operation {
         plain::subdivide_limit(sides, *num, *den, &mut out.plain, &mut out.plain_flag).into()
     }),
 };
+
+pub const CHOOSE_SETTING: Operation<Listed> = Operation {
+    ours: Call {
+        run: |Listed { sides, settings }, out| {
+            raw::choose_setting(MAX_DEGREE, sides, settings, DEPTH, BUDGET, &mut out.choice)
+        },
+        result: |out| chosen(out.choice),
+    },
+    plain: Call {
+        run: |Listed { sides, settings }, out| {
+            let choice = &mut out.plain_choice;
+            plain_settings::choose_setting(MAX_DEGREE, sides, settings, DEPTH, BUDGET, choice)
+        },
+        result: |out| chosen(out.plain_choice),
+    },
+    limit: None,
+};
+
+/// A choice's index and setting number, and whether one fits.
+fn chosen([found, index, number]: [u32; CHOICE_LENGTH]) -> (Vec<i32>, u32) {
+    (vec![index as i32, number as i32], found)
+}
 
 pub const fn enclose<const NUMBERS: usize>() -> Operation<Measured<NUMBERS>> {
     Operation {

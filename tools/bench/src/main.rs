@@ -1,17 +1,23 @@
-//! Times our evaluate, subdivide, evaluate_sixteenths and enclose beside plain Rust: one process, the same
-//! inputs, rounds in turn. It prints the median time of a call on each side, and the median and the middle
-//! half of the ratios, ours to plain; for evaluate and subdivide also the median ratio of the limit, which
-//! is plain Rust's tests and copies alone, to plain.
+//! Times our evaluate, subdivide, evaluate_sixteenths, enclose and choose_setting beside plain Rust: one
+//! process, the same inputs, rounds in turn. It prints the median time of a call on each side, and the
+//! median and the middle half of the ratios, ours to plain; for evaluate and subdivide also the median ratio
+//! of the limit, which is plain Rust's tests and copies alone, to plain; for choose_setting how many pieces a
+//! walk looks at.
 #![forbid(unsafe_code)]
 
 mod calls;
+mod lists;
 mod plain;
 mod plain_enclose;
+mod plain_settings;
 mod plain_sixteenths;
 
 use calls::{enclose, AtSixteenth, Buffers, Input, Measured, Operation, Run};
-use calls::{CURVE_SIDES, EVALUATE, PLAIN_LOAD, SIXTEENTHS, SUBDIVIDE, WITH_SPREAD};
-use jusqani::{MAX_DEGREE, MAX_DEN};
+use calls::{
+    CHOOSE_SETTING, CURVE_SIDES, EVALUATE, PLAIN_LOAD, SIXTEENTHS, SUBDIVIDE, WITH_SPREAD,
+};
+use jusqani::{MAX_DEGREE, MAX_DEN, MAX_SETTINGS};
+use lists::{lists, pieces, Kind, BUDGET, DEPTH};
 use second::draw::curve;
 use second::given::Given;
 use second::rng::Rng;
@@ -32,6 +38,15 @@ const DEN_16: RangeInclusive<i64> = 16..=16;
 /// The seventeen places j/16, each on so many curves.
 const SIXTEENTH_PLACES: usize = 17;
 const SIXTEENTH_CURVES: usize = 32;
+/// The rows of lists, with how many lists each has. A list takes up to some hundred microseconds, so that a
+/// round has few of them; of those that are decided at the first look, more.
+const LISTS: usize = 4;
+const LISTED: [(&str, Kind, usize); 4] = [
+    ("settings, last fits", Kind::LastFits, LISTS),
+    ("settings, none fits", Kind::NoneFits, LISTS),
+    ("settings, outside", Kind::StartsOutside, LISTS),
+    ("settings, first look", Kind::FirstLook, 64),
+];
 /// A measurement takes a few nanoseconds, so that a round has more of them; and so many different ones that
 /// the processor does not learn by heart which way each one branches.
 const MEASURED: usize = 4_096;
@@ -44,6 +59,7 @@ fn main() -> ExitCode {
     match curves()
         .and_then(|()| sixteenths())
         .and_then(|()| measurements())
+        .and_then(|()| settings())
     {
         Ok(()) => ExitCode::SUCCESS,
         Err(message) => {
@@ -93,6 +109,22 @@ fn measurements() -> Result<(), String> {
     )?;
     println!("{MEASURED} plain measured loads, {rounds}");
     side_by_side("enclose", &enclose::<PLAIN_LOAD>(), &plain, MEASURED_TIMES)
+}
+
+fn settings() -> Result<(), String> {
+    println!(
+        "lists of {MAX_SETTINGS} settings for curves of degree {MAX_DEGREE}, depth {DEPTH}, budget {BUDGET}, \
+         {ROUNDS} rounds of all lists once; all walks of a list are made"
+    );
+    for (name, kind, count) in LISTED {
+        let inputs = lists(kind, count);
+        let [search, plain] = pieces(&inputs);
+        println!(
+            "{count} lists; a walk of search looks at {search:.1} pieces, of plain at {plain:.1}"
+        );
+        side_by_side(name, &CHOOSE_SETTING, &inputs, 1)?;
+    }
+    Ok(())
 }
 
 /// The inputs of a row; the curves are the same ones, whatever the dens are.
@@ -246,6 +278,9 @@ mod tests {
         let plain: Vec<_> = spread.iter().map(|[r, x, _]| [*r, *x]).collect();
         assert!(agree(&enclose::<WITH_SPREAD>(), &spread));
         assert!(agree(&enclose::<PLAIN_LOAD>(), &plain));
+        for (_, kind, _) in LISTED {
+            assert!(agree(&CHOOSE_SETTING, &lists(kind, LISTS)));
+        }
     }
 
     /// The rows at any den and at den 16 differ in the parameters alone.

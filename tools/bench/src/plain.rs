@@ -52,7 +52,7 @@ fn affine(num: i64, den: i64, a: &Rect, b: &Rect) -> (Rect, bool) {
 
 /// One stage of de Casteljau's table in place: each of the first rectangles becomes the map of itself
 /// and the next. The stage is exact where every map is.
-fn stage(points: &mut [Rect], num: u32, den: u32) -> bool {
+pub fn stage(points: &mut [Rect], num: u32, den: u32) -> bool {
     let mut exact = true;
     for k in 1..points.len() {
         let (point, whole) = affine(num.into(), den.into(), &points[k - 1], &points[k]);

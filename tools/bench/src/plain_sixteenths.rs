@@ -39,7 +39,7 @@ fn row(n: usize, j: usize) -> &'static [u64] {
 }
 
 /// The rectangles 0 to n; sides that the slice does not have count as zero.
-fn points_of(n: usize, sides: &[i32]) -> Points {
+pub fn points_of(n: usize, sides: &[i32]) -> Points {
     let mut points = [[0; RECT_LENGTH]; PLACES];
     let read = sides.len().min(RECT_LENGTH * (n + 1));
     points.as_flattened_mut()[..read].copy_from_slice(&sides[..read]);
@@ -47,7 +47,7 @@ fn points_of(n: usize, sides: &[i32]) -> Points {
 }
 
 /// A refusal's answer, as ours has it: the number, and the place above it.
-const fn refused(number: u64, place: usize) -> u64 {
+pub const fn refused(number: u64, place: usize) -> u64 {
     (place as u64) << 32 | number
 }
 
