@@ -1,6 +1,7 @@
 //! What a run compares and covers, and the least of it that it must: a change in what is drawn cannot
 //! quietly leave something out.
 
+use crate::settings_coverage::SETTINGS;
 use Line::*;
 use Row::*;
 use Values::*;
@@ -354,38 +355,6 @@ const FITS: Values = Words(&["one short", "exact", "one more"]);
 const EQUAL_FLAGS: Values = Words(&["rounded", "exact between 0 and 1", "exact at 0 or 1"]);
 /// In the order of false and true.
 const FLAGS: Values = Words(&["rounded", "exact"]);
-/// What a choice from a list of settings is given, and what it gives, in the order in which chosen.rs and
-/// fitted.rs count it.
-const NO_LISTS: Values = Words(&["0", "65", "66", "320", "1,000", "65,537", "65,600"]);
-const NO_LISTS_ELSE: Values = Words(&["curve", "box", "depth", "budget"]);
-const NO_BOX_ELSE: Values = Words(&[
-    "nothing else",
-    "another bad box behind",
-    "a record before that fits",
-    "bad depth",
-    "bad budget",
-]);
-const NO_DEPTHS: Values = Words(&["13", "14", "2^32 - 1"]);
-const NO_DEPTHS_ELSE: Values = Words(&["nothing else", "bad budget"]);
-const NO_BUDGETS: Values = Words(&["0", "8,192", "2^32 - 1"]);
-const BUDGETS: Values = Words(&["1", "2 to 8", "9 to 126", "127 to 8,190", "8,191"]);
-const STORED: Values = Words(&["0", "1 to 65,534", "65,535"]);
-const BEFORE_CHOSEN: Values = Words(&["Outside", "Spent", "Undecided", "all three"]);
-const CHOSEN_PIECES: Values = Words(&["1", "more"]);
-const BEHIND: Values = Words(&[
-    "none",
-    "some",
-    "as many as allowed",
-    "one more",
-    "a bad box",
-]);
-const AGAIN: Values = Words(&[
-    "none",
-    "another box",
-    "same box, another number",
-    "another box, same number",
-]);
-const CHOSEN_LOADS: Values = Words(&["within", "at a low side"]);
 /// The sides of a box that decide how the curve's bounds lie to it: which side, and whether the bounds start
 /// or end there.
 const EDGES: Values = Words(&[
@@ -493,7 +462,7 @@ const EXACT: &str = "exact by degree, others";
 const OTHERS: Values = These(&[1, 2, 3, 4, 5, 6, 7, 8, 9, 10, 11, 13, 14, 15, 16]);
 
 /// The lines by what they are about: what is counted, the values and how often each must come.
-type Group = (&'static str, &'static [(Line, &'static str, Values, u64)]);
+pub type Group = (&'static str, &'static [(Line, &'static str, Values, u64)]);
 
 pub const GROUPS: [Group; 15] = [
     (
@@ -665,71 +634,7 @@ pub const GROUPS: [Group; 15] = [
             (BoxLoads, "loads by the box", BOX_LOADS, 1_000),
         ],
     ),
-    (
-        "choose_setting",
-        &[
-            (
-                SettingNumbers,
-                "answers",
-                These(&[0, 1, 2, 3, 7, 8, 9, 12, 16]),
-                2_000,
-            ),
-            (SettingChoice, "choice lent", Span(0, 7), 1_000),
-            (SettingLists, "lengths refused", NO_LISTS, 10),
-            (
-                SettingListsElse,
-                "lengths refused, bad too",
-                NO_LISTS_ELSE,
-                200,
-            ),
-            (
-                SettingCurves,
-                "refusals of the curve, a bad box too",
-                These(&[1, 2, 3]),
-                500,
-            ),
-            // The twelve ways to be no box of record 0, then of record 1, and so on.
-            (
-                SettingNoBoxes,
-                "bad boxes by record and way",
-                Span(0, 767),
-                20,
-            ),
-            (
-                SettingNoBoxElse,
-                "bad boxes, beside them",
-                NO_BOX_ELSE,
-                2_000,
-            ),
-            (SettingNoDepth, "depths refused", NO_DEPTHS, 500),
-            (
-                SettingNoDepthElse,
-                "depths refused, bad too",
-                NO_DEPTHS_ELSE,
-                500,
-            ),
-            (SettingNoBudget, "budgets refused", NO_BUDGETS, 500),
-            (SettingDepth, "accepted by depth limit", Span(0, 12), 500),
-            (SettingBudget, "accepted by budget", BUDGETS, 5_000),
-            (SettingFits, "fits by length", Span(1, 64), 300),
-            (SettingNone, "none fits by length", Span(1, 64), 40),
-            (SettingFitsDegree, "fits by degree", Span(1, 8), 5_000),
-            (SettingNoneDegree, "none fits by degree", Span(1, 8), 2_000),
-            (SettingIndex, "index chosen", Span(0, 63), 20),
-            (SettingStored, "number chosen", STORED, 1_000),
-            (SettingBefore, "verdicts before", BEFORE_CHOSEN, 500),
-            (SettingPieces, "pieces of the chosen", CHOSEN_PIECES, 2_000),
-            (
-                SettingNoneVerdicts,
-                "verdicts where none fits",
-                BEFORE_CHOSEN,
-                100,
-            ),
-            (SettingBehind, "put behind the chosen", BEHIND, 2_000),
-            (SettingAgain, "others that fit behind", AGAIN, 1_000),
-            (SettingBoxLoads, "loads in the box", CHOSEN_LOADS, 5_000),
-        ],
-    ),
+    SETTINGS,
     (
         "enclose",
         &[
@@ -915,7 +820,6 @@ impl Values {
 mod tests {
     use super::*;
     use crate::draw::{REFUSED_DEGREES, REFUSED_SIXTEENTHS};
-    use crate::records::{REFUSED_BUDGETS, REFUSED_DEPTHS, REFUSED_LENGTHS};
 
     #[test]
     fn has_every_row_and_line_once() {
@@ -927,8 +831,5 @@ mod tests {
             .eq(0..=ReplayRecordFaults as usize));
         assert_eq!(REFUSED.named().len(), REFUSED_DEGREES.len());
         assert_eq!(BEYOND.named().len(), REFUSED_SIXTEENTHS.len());
-        assert_eq!(NO_LISTS.named().len(), REFUSED_LENGTHS.len());
-        assert_eq!(NO_DEPTHS.named().len(), REFUSED_DEPTHS.len());
-        assert_eq!(NO_BUDGETS.named().len(), REFUSED_BUDGETS.len());
     }
 }

@@ -47,6 +47,7 @@ pub mod verdicts;
 // What is counted.
 pub mod coverage;
 pub mod parts;
+pub mod settings_coverage;
 pub mod tally;
 
 #[cfg(test)]

@@ -142,7 +142,7 @@ pub fn texts() -> impl Iterator<Item = (Vec<u8>, Vec<u8>)> {
 #[cfg(test)]
 mod tests {
     use super::*;
-    use crate::programs::text::{answers_to, Answers};
+    use crate::programs::reader::{answers_to, Answers};
 
     #[test]
     fn come_out_as_the_paper_says() {

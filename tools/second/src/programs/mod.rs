@@ -3,6 +3,7 @@
 pub mod card;
 pub mod examples;
 pub mod process;
+pub mod reader;
 pub mod records;
 pub mod refusal;
 pub mod replay;
