@@ -55,7 +55,8 @@ const BOX_SIDE: RangeInclusive<i64> = i32::MIN as i64..=i32::MAX as i64;
 const ANY: RangeInclusive<i64> = i64::MIN..=i64::MAX;
 
 impl Reader<'_> {
-    /// Writes the answers to a case; a bad card or call, with its records, is answered by the offset where it begins.
+    /// Writes the answers to a case; a bad card or call, its records included, is answered by the offset where
+    /// it begins.
     fn case(&mut self, places: bool, written: &mut Vec<u8>) -> Result<(), Fault> {
         let mut begun = self.offset;
         let ended = self.answer_case(places, &mut begun, written);
