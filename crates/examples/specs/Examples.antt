@@ -5,6 +5,7 @@ use mathlib.Core.List.{List, [], _∷_, map}
 use Prim.Native.Nat.{ℕ}
 use lib.IntN.{ℤ, pos, negsuc}
 use lib.Ieee.{Float, nan, binary32, ofBits}
+use lib.ListN.{replicate}
 use Rattle.rational.specs.Rounding.{down}
 use Rattle.rational.specs.Fraction.{Frac}
 use Rattle.curve.specs.declared.Curve.{Curve}
@@ -18,9 +19,12 @@ use Rattle.ledger.specs.Ordinary.{exactSide}
 use Rattle.ledger.specs.Ledger.{parameter}
 use Rattle.search.specs.Verdict.{inside, outside, spent, undecided}
 use Rattle.search.specs.Search.{searched}
+use Rattle.settings.specs.declared.Setting.{Setting}
+use Rattle.settings.specs.Choice.{fitting, noneFitting}
+use Rattle.settings.specs.Settings.{chosen}
 use Rattle.bridge.specs.declared.Measurement.the-variants.{NoCarrier, Load, LoadWithSpread}
 use Rattle.bridge.specs.Bridge.{noCarrier, rectangle, enclosed}
-use Rattle.examples.specs.Shown.{values, line, ends, refusalShown, flagShown, evaluationShown, resistancesShown, verdictShown, foundShown, upperOf, timesLower, spaces}
+use Rattle.examples.specs.Shown.{values, line, ends, refusalShown, flagShown, evaluationShown, resistancesShown, verdictShown, choiceShown, foundShown, upperOf, timesLower, spaces}
 
 -- an example: the numbers that a definition answers, and those that a document gives
 pub record Example : Type 0 where
@@ -70,6 +74,25 @@ smallBox = box (pos 0) (pos 2) (pos 0) (pos 1)
 
 abbrev pub widestBox : Rect
 widestBox = box (negsuc 16777215) (pos 16777216) (negsuc 16777215) (pos 16777216)
+
+-- relay settings for the resistances 0 to 4: too narrow; the high resistance reached; two that fit, with one number; and one whose box is empty
+abbrev pub setting : ℤ → ℤ → ℕ → Setting
+setting low high number = record { limits = box low high (pos 0) (pos 1); number = number }
+
+abbrev pub narrow : Setting
+narrow = setting (pos 0) (pos 2) 5
+
+abbrev pub touching : Setting
+touching = setting (pos 0) (pos 4) 6
+
+abbrev pub fitted : Setting
+fitted = setting (pos 0) (pos 5) 7
+
+abbrev pub wider : Setting
+wider = setting (pos 0) (pos 6) 7
+
+abbrev pub emptyBox : Setting
+emptyBox = setting (pos 2) (pos 2) 8
 
 -- single-precision ohms by their bits
 abbrev pub single : ℕ → Float
@@ -196,6 +219,22 @@ examples =
     ∷ (evaluationShown (evaluatedSixteenths threeValues 17) gives pos 15 ∷ pos 0 ∷ pos 0 ∷ pos 0 ∷ pos 0 ∷ pos 0 ∷ [])
     ∷ (flagShown (evaluatedSixteenths threeValues 17 .exact) gives pos 0 ∷ [])
     ∷ (refusalShown (evaluatedSixteenths (values 9 []) 17 .refusal) gives pos 1 ∷ pos 0 ∷ [])
+    -- relay settings: walks that end Outside and Undecided, then the first that fits, of two with its number; after it the other would fit
+    ∷ (choiceShown (chosen zeroToFour (narrow ∷ touching ∷ fitted ∷ wider ∷ []) 2 5) gives pos 0 ∷ pos 0 ∷ pos fitting ∷ pos 2 ∷ pos 7 ∷ [])
+    ∷ (choiceShown (chosen zeroToFour (wider ∷ fitted ∷ []) 2 5) gives pos 0 ∷ pos 0 ∷ pos fitting ∷ pos 0 ∷ pos 7 ∷ [])
+    -- at budget 4 the first walk spends it, and the second begins with the whole budget
+    ∷ (choiceShown (chosen zeroToFour (narrow ∷ fitted ∷ []) 2 4) gives pos 0 ∷ pos 0 ∷ pos fitting ∷ pos 1 ∷ pos 7 ∷ [])
+    -- none fits
+    ∷ (choiceShown (chosen zeroToFour (narrow ∷ touching ∷ []) 2 5) gives pos 0 ∷ pos 0 ∷ pos noneFitting ∷ pos 0 ∷ pos 0 ∷ [])
+    -- a list of 0 and of 65 records is a 16 with its length, before a degree of 9; one of 64 is accepted
+    ∷ (choiceShown (chosen (values 9 []) [] 2 5) gives pos 16 ∷ pos 0 ∷ pos 0 ∷ pos 0 ∷ pos 0 ∷ [])
+    ∷ (choiceShown (chosen zeroToFour (replicate 65 fitted) 2 5) gives pos 16 ∷ pos 65 ∷ pos 0 ∷ pos 0 ∷ pos 0 ∷ [])
+    ∷ (choiceShown (chosen zeroToFour (replicate 64 fitted) 2 5) gives pos 0 ∷ pos 0 ∷ pos fitting ∷ pos 0 ∷ pos 7 ∷ [])
+    -- a bad box behind a record that fits is a 7 with its index, after the curve's 1 and before 8 and 9
+    ∷ (choiceShown (chosen zeroToFour (fitted ∷ emptyBox ∷ emptyBox ∷ []) 13 0) gives pos 7 ∷ pos 1 ∷ pos 0 ∷ pos 0 ∷ pos 0 ∷ [])
+    ∷ (choiceShown (chosen (values 9 []) (emptyBox ∷ []) 2 5) gives pos 1 ∷ pos 0 ∷ pos 0 ∷ pos 0 ∷ pos 0 ∷ [])
+    ∷ (choiceShown (chosen zeroToFour (fitted ∷ []) 13 0) gives pos 8 ∷ pos 0 ∷ pos 0 ∷ pos 0 ∷ pos 0 ∷ [])
+    ∷ (choiceShown (chosen zeroToFour (fitted ∷ []) 12 0) gives pos 9 ∷ pos 0 ∷ pos 0 ∷ pos 0 ∷ pos 0 ∷ [])
     ∷ []
 
 -- every example of the list is answered as the documents say

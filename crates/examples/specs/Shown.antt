@@ -15,6 +15,8 @@ use Rattle.curve.specs.declared.Evaluation.{Evaluation}
 use Rattle.curve.specs.Rect.{zeroInterval}
 use Rattle.search.specs.declared.Verdict.{Verdict}
 use Rattle.search.specs.Verdict as verdict
+use Rattle.settings.specs.declared.ChoiceAnswer.{ChoiceAnswer}
+use Rattle.settings.specs.Choice as choice
 use Rattle.bridge.specs.declared.BridgeAnswer.{BridgeAnswer}
 use Rattle.bridge.specs.Bridge.{reported}
 use Rattle.curve.specs.Curve.{point, curveOf}
@@ -64,6 +66,11 @@ resistancesShown c = pos (c .degree) ∷ resistancesFrom c (c .degree + 1) 0
 abbrev pub verdictShown : Verdict → List ℤ
 verdictShown v =
     let r = verdict.reported v in pos (r .number) ∷ pos (r .depth) ∷ pos (r .index) ∷ pos (r .count) ∷ []
+
+-- the choice of a setting: the refusal, the choice's number, the index and the setting number
+abbrev pub choiceShown : ChoiceAnswer → List ℤ
+choiceShown a =
+    let r = choice.reported (a .choice) in refusalShown (a .refusal) ++ (pos (r .number) ∷ pos (r .index) ∷ pos (r .setting) ∷ [])
 
 -- what the bridge measured: the refusal, the number of what was found, and its rectangle's sides
 abbrev pub foundShown : BridgeAnswer → List ℤ

@@ -119,6 +119,29 @@ pub fn put_exact(out: &mut u32, refusal: Refusal, exact: bool)
     put_number(out, refusal, exact as u32);
 }
 
+// Stores numbers from the first place on.
+fn store_numbers(out: &mut [u32], numbers: &[u32])
+    requires { ⌜ length (now numbers) ≤ length (now out) ⌝ }
+    ensures { λ _. ⌜ now (out .exit) ≡ now (numbers .entry) ++ drop (length (now (numbers .entry))) (now (out .entry)) ⌝ }
+{
+    let mut k = 0;
+    while k < numbers.len() {
+        out[k] = numbers[k];
+        k += 1;
+    }
+}
+
+// Gives numbers, unless the call is refused.
+fn put_numbers(out: &mut [u32], refusal: Refusal, numbers: &[u32])
+    requires { ⌜ Room refusal (length (now numbers)) (now out) ⌝ }
+    ensures { λ _. ⌜ now (out .exit) ≡ after refusal (now (numbers .entry)) (now (out .entry)) ⌝ }
+{
+    if refusal.number != 0 {
+        return;
+    }
+    store_numbers(out, numbers);
+}
+
 // A verdict's number, depth, index and count.
 fn verdict_numbers(v: Verdict) -> [u32; 4]
     ensures { λ r. ⌜ r ≡ verdictNumbers v ⌝ }
@@ -145,14 +168,8 @@ pub fn put_verdict(out: &mut [u32], refusal: Refusal, v: Verdict)
     requires { ⌜ Room refusal 4 (now out) ⌝ }
     ensures { λ _. ⌜ now (out .exit) ≡ after refusal (verdictNumbers v) (now (out .entry)) ⌝ }
 {
-    if refusal.number != 0 {
-        return;
-    }
     let numbers = verdict_numbers(v);
-    out[0] = numbers[0];
-    out[1] = numbers[1];
-    out[2] = numbers[2];
-    out[3] = numbers[3];
+    put_numbers(out, refusal, &numbers);
 }
 
 // A choice's number, index and setting number.
@@ -171,13 +188,8 @@ pub fn put_choice(out: &mut [u32], refusal: Refusal, choice: Choice)
     requires { ⌜ Room refusal 3 (now out) ⌝ }
     ensures { λ _. ⌜ now (out .exit) ≡ after refusal (choiceNumbers choice) (now (out .entry)) ⌝ }
 {
-    if refusal.number != 0 {
-        return;
-    }
     let numbers = choice_numbers(choice);
-    out[0] = numbers[0];
-    out[1] = numbers[1];
-    out[2] = numbers[2];
+    put_numbers(out, refusal, &numbers);
 }
 
 // The numbers that what was found needs.

@@ -24,15 +24,13 @@ use Rattle.curve.specs.Refusals.{Accepted}
 use Rattle.curve.proofs.Tests.{both}
 use Rattle.ledger.specs.Ordinary.{Ordinary, InsideOf, loadAt}
 use Rattle.ledger.specs.Ledger.{parameter}
-use Rattle.search.specs.declared.Verdict.{Verdict}
-use Rattle.search.specs.declared.Verdict.the-variants.{Refused, Inside as InsideV, Outside, Spent, Undecided}
+use Rattle.search.specs.declared.Verdict.the-variants.{Inside as InsideV}
 use Rattle.search.specs.Verdict.{reported, inside, outside}
 use Rattle.search.specs.Box.{within, disjoint, inBox, apartFrom}
-use Rattle.search.specs.Walk.{goesOn, looked, noted}
 use Rattle.search.specs.Pieces.{pieceAt}
 use Rattle.search.specs.Promises.{answered, Allowed, LoadIn, Between, InsideMeans, OutsideMeans}
 use Rattle.search.proofs.InsideWalk.{inside-on, looked-inside, noted-inside}
-use Rattle.search.proofs.Steps.{Going, clear, marked, Rules, walk-keeps}
+use Rattle.search.proofs.Steps.{Rules, walk-keeps}
 use Rattle.search.proofs.Accepted.{by-answer}
 use Rattle.search.proofs.Named.{Place, whole-place, place-half, outside-names}
 use Rattle.search.proofs.Dyadic.{dyadic, parameter-dyadic, dyadic-whole, dyadic-left, dyadic-end, along as point-along}

@@ -2,23 +2,22 @@
 -- Each record brings the call nearer to its end.
 -- Assumes nothing.
 use mathlib.Core.Path.{_≡_, refl, sym, ap, _∙_, subst}
-use mathlib.Core.Bool.{Bool, true, false, _&&_, cond}
+use mathlib.Core.Bool.{Bool, true, false, cond}
 use mathlib.Core.List.{List, [], _∷_}
-use Prim.Native.Nat.{ℕ, zero, suc, _+_, _-_, _≤_, _<_}
-use native.Mathlib.Nat.{not-suc-le-zero, le-of-suc-le-suc}
+use Prim.Native.Nat.{ℕ, _+_, _-_, _≤_, _<_}
 use native.Mathlib.Numerals.{add-one}
 use native.Mathlib.Omega.{arith}
-use borrow.Author.Tests.{ltb-true, ltb-false, eq-eqb, ne-eqb}
-use lib.Dec.{T, leb, ltb, eqb, leb→le}
+use borrow.Author.Tests.{ltb-true, ltb-false, eq-eqb}
+use lib.Dec.{T, ltb, eqb}
 use lib.ListN.{length, getD, drop}
 use lib.Seq.{drop-cons, drop-length}
 use Rattle.curve.specs.declared.Rect.{Rect}
 use Rattle.curve.specs.declared.Curve.{Curve}
 use Rattle.curve.specs.declared.Refusal.{Refusal}
-use Rattle.curve.specs.Refusals.{none, refusal, _orElse_, unlessAt, curveRefusal}
+use Rattle.curve.specs.Refusals.{none, refusal, _orElse_, curveRefusal}
 use Rattle.curve.specs.Calls.{bounded}
-use Rattle.curve.proofs.Refused.{by-number, or-assoc, or-first}
-use Rattle.curve.proofs.Tests.{true-of, both, join, or-split, or-none, unless-holds}
+use Rattle.curve.proofs.Refused.{by-number, or-assoc}
+use Rattle.curve.proofs.Tests.{or-split, or-none}
 use Rattle.curve.proofs.Accepted.{number-accepted}
 use Rattle.search.specs.Box.{isBox}
 use Rattle.search.specs.Search.{effortRefusal, searchRefusal}
@@ -27,34 +26,18 @@ use Rattle.settings.specs.declared.Setting.{Setting}
 use Rattle.settings.specs.declared.Choice.{Choice}
 use Rattle.settings.specs.declared.Choice.the-variants.{Refused, Fits, NoneFits}
 use Rattle.settings.specs.declared.ChoiceAnswer.{ChoiceAnswer}
-use Rattle.settings.specs.declared.Progress.{Progress}
+use Rattle.settings.specs.declared.records.Progress.{Progress}
 use Rattle.settings.specs.Limits.{maxSettings}
 use Rattle.settings.specs.Settings.{listRefusal, boxesRefusal, settingsRefusal, fits, firstOf, chosen}
 use Rattle.settings.specs.Inner.{answer, dueAt, ended, startedUnless, begun, checked, tried, next, DueNow}
 use Rattle.settings.proofs.Steps.{checked-bad, checked-next, checked-last, tried-fits, tried-next, tried-last}
+use Rattle.settings.proofs.Refused.{list-holds, boxes-good}
 use Rattle.settings.proofs.Answers.{chosen-accepted, chosen-refused}
 
 -- by a test's value
 by-test : {P : Type 0} (b : Bool) → (b ≡ true → P) → (b ≡ false → P) → P
 by-test {P} true holds fails = holds refl
 by-test {P} false holds fails = fails refl
-
--- a length that is not refused
-pub list-holds : (count : ℕ) → listRefusal count .number ≡ 0 → (listRefusal count ≡ none) × (1 ≤ count) × (count ≤ maxSettings)
-unfolding listRefusal
-list-holds count h = let (low, high) = both (leb 1 count) (leb count maxSettings) (unless-holds (leb 1 count && leb count maxSettings) 15 count h) in
-    (ap (λ (b : Bool). unlessAt b 16 count) (true-of (leb 1 count && leb count maxSettings) (join (leb 1 count) (leb count maxSettings) low high)), leb→le 1 count low, leb→le count maxSettings high)
-
--- where no box is refused each record has a good one
-by-box : (b : Bool) (index : ℕ) (later : Refusal) → cond b later (refusal 7 index) .number ≡ 0 → T b × (later .number ≡ 0)
-by-box true index later h = (tt, h)
-by-box false index later h = let no : refusal 7 index .number ≡ 0 = h in absurd (omega arith)
-
-pub boxes-good : (index : ℕ) (ss : List Setting) → boxesRefusal index ss .number ≡ 0 → (d : Setting) (k : ℕ) → k < length ss → T (isBox (getD ss k d .limits))
-unfolding boxesRefusal
-boxes-good index [] h d k l = absurd (not-suc-le-zero l)
-boxes-good index (s ∷ rest) h d zero l = by-box (isBox (s .limits)) index _ h .0
-boxes-good index (s ∷ rest) h d (suc k) l = boxes-good (suc index) rest (by-box (isBox (s .limits)) index _ h .1) d k (le-of-suc-le-suc l)
 
 module _ (c : Curve) (ss : List Setting) (depth budget : ℕ) where
   abbrev count : ℕ

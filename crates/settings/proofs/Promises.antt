@@ -1,9 +1,9 @@
 -- The promises: what is chosen is the first record that fits, it is safe to hold, and nothing behind it is read.
 -- Assumes nothing.
-use mathlib.Core.Path.{_≡_, refl, sym, ap, ap₂, _∙_, subst}
-use mathlib.Core.Bool.{Bool, true, false, cond}
-use mathlib.Core.List.{List, [], _∷_, _++_}
-use Prim.Native.Nat.{ℕ, suc, _<_}
+use mathlib.Core.Path.{_≡_, sym, ap, ap₂, _∙_, subst}
+use mathlib.Core.Bool.{true, false, cond}
+use mathlib.Core.List.{List, _++_}
+use Prim.Native.Nat.{ℕ}
 use native.Mathlib.Nat.{zero-add}
 use native.Mathlib.Omega.{arith}
 use borrow.Author.Tests.{eqb-true, eq-eqb, ne-eqb}
@@ -11,58 +11,35 @@ use lib.Dec.{T, eqb}
 use lib.ListN.{length}
 use Rattle.curve.specs.declared.Curve.{Curve}
 use Rattle.curve.specs.declared.Refusal.{Refusal}
-use Rattle.curve.specs.Curve.{SameCurve}
-use Rattle.curve.specs.Refusals.{none, refusal, _orElse_, curveRefusal}
+use Rattle.curve.specs.Refusals.{none, _orElse_}
 use Rattle.curve.proofs.Refused.{by-number}
-use Rattle.curve.proofs.Tests.{or-split, or-none}
-use Rattle.curve.proofs.Accepted.{number-accepted}
 use Rattle.search.specs.declared.SearchAnswer.{SearchAnswer}
 use Rattle.search.specs.Verdict.{inside}
 use Rattle.search.specs.Verdict as Verdict
-use Rattle.search.specs.Box.{isBox}
-use Rattle.search.specs.Search.{effortRefusal, searched, endsInside}
-use Rattle.search.proofs.Accepted.{effort-settled}
+use Rattle.search.specs.Search.{effortRefusal, endsInside}
 use Rattle.search.proofs.Meaning as Meaning
 use Rattle.search.proofs.PastUnread as Walks
 use Rattle.settings.specs.declared.Setting.{Setting}
 use Rattle.settings.specs.declared.Choice.{Choice}
 use Rattle.settings.specs.declared.Choice.the-variants.{Refused}
 use Rattle.settings.specs.declared.ChoiceAnswer.{ChoiceAnswer}
-use Rattle.settings.specs.Choice.{Report, reported, fitting, noneFitting}
+use Rattle.settings.specs.Choice.{Report, reported, fitting}
 use Rattle.settings.specs.Settings.{listRefusal, boxesRefusal, settingsRefusal, fits, firstOf, chosen}
 use Rattle.settings.specs.Inner.{answer}
 use Rattle.settings.specs.Promises.{recordAt, EndsInside, FirstFitting, First, NoneExactly, SafeToHold, LaterUnread, PastUnread}
 use Rattle.settings.proofs.Answers.{chosen-accepted, chosen-refused, chosen-refusal}
-use Rattle.settings.proofs.Going.{list-holds}
+use Rattle.settings.proofs.Refused.{settings-settled}
 use Rattle.settings.proofs.Searching.{Found, found, none-found, nothing-found, same-found}
 use Rattle.settings.proofs.Searching as Searching
 
 -- ---- a call that is not refused
 
-by-box : (b : Bool) (index : ℕ) (later : Refusal) → (later .number ≡ 0 → later ≡ none) → cond b later (refusal 7 index) .number ≡ 0 → cond b later (refusal 7 index) ≡ none
-by-box true index later settled h = settled h
-by-box false index later settled h = let no : refusal 7 index .number ≡ 0 = h in absurd (omega arith)
-
-boxes-settled : (index : ℕ) (ss : List Setting) → boxesRefusal index ss .number ≡ 0 → boxesRefusal index ss ≡ none
-unfolding boxesRefusal
-boxes-settled index [] h = refl
-boxes-settled index (s ∷ rest) h = by-box (isBox (s .limits)) index (boxesRefusal (suc index) rest) (boxes-settled (suc index) rest) h
-
 module _ (c : Curve) (ss : List Setting) (depth budget : ℕ) where
-  settings-settled : settingsRefusal c ss depth budget .number ≡ 0 → settingsRefusal c ss depth budget ≡ none
-  unfolding settingsRefusal
-  settings-settled h =
-      let (list-zero, past-list) = or-split (listRefusal (length ss)) _ h in
-      let (curve-zero, past-curve) = or-split (curveRefusal c) _ past-list in
-      let (boxes-zero, effort-zero) = or-split (boxesRefusal 0 ss) _ past-curve in
-      or-none (listRefusal (length ss)) _ (list-holds (length ss) list-zero .0) ∙ or-none (curveRefusal c) _ (number-accepted c curve-zero)
-      ∙ or-none (boxesRefusal 0 ss) _ (boxes-settled 0 ss boxes-zero) ∙ effort-settled depth budget effort-zero
-
   -- the choice is that of a refused call, or of the search over an accepted list
   by-choice : (P : Choice → Type 0) → P Refused → (settingsRefusal c ss depth budget ≡ none → P (firstOf (fits c depth budget) 0 ss)) → P (chosen c ss depth budget .choice)
   by-choice P refused accepted =
       by-number (settingsRefusal c ss depth budget .number)
-      (λ h. let e = settings-settled h in subst (λ (a : ChoiceAnswer). P (a .choice)) (sym (chosen-accepted c ss depth budget e)) (accepted e))
+      (λ h. let e = settings-settled c ss depth budget h in subst (λ (a : ChoiceAnswer). P (a .choice)) (sym (chosen-accepted c ss depth budget e)) (accepted e))
       (λ e. subst (λ (a : ChoiceAnswer). P (a .choice)) (sym (chosen-refused c ss depth budget e)) refused)
 
   -- an answer that a record fits is of an accepted list

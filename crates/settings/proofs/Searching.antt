@@ -10,7 +10,7 @@ use Prim.Native.Nat.{suc-le-suc}
 use lib.ListN.{length}
 use Rattle.settings.specs.declared.Setting.{Setting}
 use Rattle.settings.specs.declared.Choice.{Choice}
-use Rattle.settings.specs.declared.Choice.the-variants.{Refused, Fits, NoneFits}
+use Rattle.settings.specs.declared.Choice.the-variants.{Fits, NoneFits}
 use Rattle.settings.specs.Choice.{Report, reported, fitting, noneFitting}
 use Rattle.settings.specs.Settings.{firstOf}
 use Rattle.settings.specs.Promises.{recordAt}

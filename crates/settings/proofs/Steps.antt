@@ -3,10 +3,9 @@
 use mathlib.Core.Path.{_≡_}
 use mathlib.Core.Bool.{true, false}
 use Prim.Native.Nat.{ℕ, _+_}
-use lib.Dec.{ltb, eqb}
+use lib.Dec.{ltb}
 use Rattle.curve.specs.declared.Rect.{Rect}
 use Rattle.curve.specs.declared.Curve.{Curve}
-use Rattle.curve.specs.declared.Refusal.{Refusal}
 use Rattle.curve.specs.Refusals.{none, refusal}
 use Rattle.search.specs.Box.{isBox}
 use Rattle.search.specs.Search.{effortRefusal}

@@ -16,7 +16,7 @@ use Rattle.settings.specs.declared.Setting.{Setting}
 use Rattle.settings.specs.declared.Choice.{Choice}
 use Rattle.settings.specs.declared.Choice.the-variants.{Refused, Fits, NoneFits}
 use Rattle.settings.specs.declared.ChoiceAnswer.{ChoiceAnswer}
-use Rattle.settings.specs.declared.Progress.{Progress}
+use Rattle.settings.specs.declared.records.Progress.{Progress}
 use Rattle.settings.specs.Limits.{maxSettings}
 use Rattle.settings.specs.Settings.{listRefusal, fits}
 

@@ -14,7 +14,7 @@ use records::next;
 // The longest list.
 pub const MAX_SETTINGS: usize = 64;
 
-// A relay setting: the box in which the load must stay, and the setting's number.
+// A relay setting: the box in which the load must stay, and the setting's number. It lies in memory as C lays it out, in 20 bytes.
 #[repr(C)]
 pub struct Setting {
     pub limits: Rect,
@@ -32,15 +32,6 @@ pub enum Choice {
 pub struct ChoiceAnswer {
     pub refusal: Refusal,
     pub choice: Choice,
-}
-
-// How far the list has been gone through. While a record is due, `at` is its index: first each box is checked, then the records are tried in their order. The curve's span is found once and goes along.
-pub struct Progress {
-    pub due: bool,
-    pub trying: bool,
-    pub at: usize,
-    pub span: Rect,
-    pub answer: ChoiceAnswer,
 }
 
 // The first record of the list whose walk ends Inside, each walk with this depth and the whole budget; refusals 16, 1 to 3 and 7 to 9.

@@ -9,7 +9,6 @@ ghost use Rattle.settings.specs.Inner.{dueAt, ended, startedUnless, begu
 use crate::Choice;
 use crate::ChoiceAnswer;
 use crate::MAX_SETTINGS;
-use crate::Progress;
 use crate::Setting;
 use curve::Curve;
 use curve::Rect;
@@ -22,6 +21,15 @@ use search::effort_refusal;
 use search::ends_inside;
 use search::in_box;
 use search::is_box;
+
+// How far the list has been gone through. While a record is due, `at` is its index: first each box is checked, then the records are tried in their order. The curve's span is found once and goes along.
+pub struct Progress {
+    pub due: bool,
+    pub trying: bool,
+    pub at: usize,
+    pub span: Rect,
+    pub answer: ChoiceAnswer,
+}
 
 const NOT_REFUSED: Refusal = Refusal {
     number: 0,

@@ -1,50 +1,21 @@
--- `put_verdict` meets its contract: four stores in front, and none where the call is refused.
+-- `put_verdict` meets its contract: it gives the verdict's numbers.
 -- Assumes nothing.
-use mathlib.Core.Path.{_∙_}
-use native.Mathlib.Omega.{arith}
+use mathlib.Core.Path.{refl, ap, _∙_}
+use mathlib.Core.List.{List}
+use Prim.Native.Nat.{ℕ}
 use borrow.Author.Needs.{needs}
-use lib.ListN.{length-set}
-use Rattle.foreign.specs.Numbers.{verdictNumbers}
-use Rattle.foreign.proofs.Lent.{front-first, all-kept, value-stored}
+use Rattle.foreign.specs.Answer.{after}
 use Rattle.foreign.proofs.results.put_verdict.Statement.{statement}
 use Rattle.foreign.proofs.results.put_verdict.Tie as tie
 
+put-numbers-requires : tie.Need-put-numbers-requires
+put-numbers-requires c κs = rw (c .before .before .verdict-numbers .ensures) (c .before .before .before .before .pre)
+
 returns : tie.Need-returns
-returns c = all-kept _ _ _ (c .if1 .taken)
-
-slice-write-out : tie.Need-slice-write-out
-slice-write-out c = let e = c .before in let room = e .before .before .before .pre (e .if1 .left) in omega arith
-
-slice-write-out-2 : tie.Need-slice-write-out-2
-slice-write-out-2 c = let e = c .before in let room = e .before .before .before .pre (e .if1 .left) in simp length-set (omega arith)
-
-slice-write-out-3 : tie.Need-slice-write-out-3
-slice-write-out-3 c = let e = c .before in let room = e .before .before .before .pre (e .if1 .left) in simp length-set (omega arith)
-
-slice-write-out-4 : tie.Need-slice-write-out-4
-slice-write-out-4 c = let e = c .before in let room = e .before .before .before .pre (e .if1 .left) in simp length-set (omega arith)
-
-returns-2 : tie.Need-returns-2
-returns-2 c =
-    let e = c .before in
-    let s = e .before .before .before in
-    let a = s .args in
-    rw (c .verdict-numbers .ensures)
-    (front-first (verdictNumbers (a .v)) (a .out .now) (s .pre (e .if1 .left)) ∙ value-stored _ _ _ (e .if1 .left))
+returns c =
+    let given = c .before .before in
+    let start = given .before .before .before .before .before in
+    given .put-numbers .ensures ∙ ap (λ (xs : List ℕ). after (start .args .refusal) xs (start .args .out .now)) (given .before .before .before .verdict-numbers .ensures)
 
 pub put-verdict-spec : {M : Type 1} → statement M
-put-verdict-spec =
-    tie.close
-    (tie.spec
-    returns
-    (λ c κs. search needs)
-    (λ c. search needs)
-    slice-write-out
-    (λ c. search needs)
-    slice-write-out-2
-    (λ c. search needs)
-    slice-write-out-3
-    (λ c. search needs)
-    slice-write-out-4
-    (λ c. search needs)
-    returns-2)
+put-verdict-spec = tie.close (tie.spec (λ c κs. search needs) (λ c. rw (c .before .before .verdict-numbers .ensures) refl) put-numbers-requires (λ c. search needs) returns)

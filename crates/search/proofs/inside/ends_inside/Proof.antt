@@ -1,6 +1,6 @@
 -- `ends_inside` meets its contract: a walk that is not refused ends Inside exactly if its count as one Inside is not 0.
 -- Assumes nothing.
-use mathlib.Core.Path.{_≡_, sym, ap, _∙_}
+use mathlib.Core.Path.{sym}
 use native.Mathlib.Omega.{arith}
 use borrow.Author.Needs.{needs}
 use Rattle.curve.proofs.Refused.{number-refused, number-passed}
