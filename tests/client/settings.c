@@ -3,6 +3,7 @@
  * usage: settings [--choice LENGTH] DEPTH BUDGET [R-LOW R-HIGH X-LOW X-HIGH NUMBER]... < CARD */
 #include <errno.h>
 #include <inttypes.h>
+#include <stddef.h>
 #include <stdio.h>
 #include <stdlib.h>
 #include <string.h>
@@ -90,6 +91,14 @@ static void show_choice(const uint32_t *choice, size_t count)
     printf("setting %" PRIu32 ", record %" PRIu32 "\n", choice[2], choice[1]);
 }
 
+/* Fills what lies behind each record's number: it is no part of the setting, and no answer may depend on it. */
+static void fill_gaps(size_t count, int filling)
+{
+    const size_t used = offsetof(struct jusqani_setting, number) + sizeof settings[0].number;
+    for (size_t k = 0; k < count; k++)
+        memset((uint8_t *)&settings[k] + used, filling, sizeof settings[k] - used);
+}
+
 /* Chooses from the first settings for the card on standard input, and shows what came. */
 static int choose(size_t count, uint32_t depth, uint32_t budget, size_t choice_length)
 {
@@ -97,13 +106,22 @@ static int choose(size_t count, uint32_t depth, uint32_t budget, size_t choice_l
     uint8_t card[MAX_CARD];
     int32_t curve[MAX_CURVE];
     uint32_t choice[MAX_CHOICE] = {FILL, FILL, FILL, FILL, FILL, FILL};
+    uint32_t again[MAX_CHOICE] = {FILL, FILL, FILL, FILL, FILL, FILL};
     size_t card_length = read_input(card);
-    memcpy(before, settings, sizeof before);
     uint64_t answer = jusqani_read_card(card, card_length, curve, MAX_CURVE);
-    if (answer == 0)
-        answer = jusqani_choose_setting((uint32_t)curve[0], curve + 1, (size_t)JUSQANI_CURVE_LENGTH(curve[0]) - 1,
-                                        settings, count, depth, budget, choice, choice_length);
-    require(memcmp(before, settings, sizeof before) == 0, "the list is unchanged");
+    if (answer == 0) {
+        size_t length = (size_t)JUSQANI_CURVE_LENGTH(curve[0]) - 1;
+        fill_gaps(count, 0x00);
+        answer = jusqani_choose_setting((uint32_t)curve[0], curve + 1, length, settings, count, depth, budget, choice,
+                                        choice_length);
+        fill_gaps(count, 0xa5);
+        memcpy(before, settings, sizeof before);
+        require(answer == jusqani_choose_setting((uint32_t)curve[0], curve + 1, length, settings, count, depth, budget,
+                                                 again, choice_length)
+                    && memcmp(choice, again, sizeof choice) == 0,
+                "what lies behind a record's number does not matter");
+        require(memcmp(before, settings, sizeof before) == 0, "the list is unchanged");
+    }
     require(kept(choice, answer == 0 ? JUSQANI_CHOICE_LENGTH : 0), "what lies past the choice is kept");
     if (answer != 0) {
         show_refusal(answer);

@@ -120,7 +120,7 @@ fn settings() -> Result<(), String> {
         let inputs = lists(kind, count);
         let [search, plain] = pieces(&inputs);
         println!(
-            "{count} lists; a walk of search looks at {search:.1} pieces, of plain at {plain:.1}"
+            "{count} lists; a walk of plain looks at {plain:.1} pieces, and of a search at {search:.1}"
         );
         side_by_side(name, &CHOOSE_SETTING, &inputs, 1)?;
     }
