@@ -22,7 +22,7 @@ use Rattle.settings.specs.Limits.{maxSettings}
 unfoldable pub listRefusal : ℕ → Refusal
 listRefusal count = unlessAt (leb 1 count && leb count maxSettings) 16 count
 
--- 7: the first record whose box is none, the records being numbered from `index` on
+-- 7: the first record whose box is refused, the records being numbered from `index` on
 unfoldable pub boxesRefusal : ℕ → List Setting → Refusal
 boxesRefusal index [] = none
 boxesRefusal index (s ∷ rest) = cond (isBox (s .limits)) (boxesRefusal (suc index) rest) (refusal 7 index)
