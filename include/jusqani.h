@@ -5,10 +5,16 @@
  * A side is a whole number of steps of 1/1,024 ohm. A rectangle is four sides: resistance low, resistance high,
  * reactance low, reactance high.
  *
- * A curve that a call is given is its degree n and its sides, four for each of the rectangles 0 to n. Sides that the
- * buffer does not have count as zero, and sides past rectangle n are not read. A curve that a call gives is
- * JUSQANI_CURVE_LENGTH(n) numbers: its degree, then its sides; so `curve[0]`, `curve + 1` and
- * JUSQANI_CURVE_LENGTH(n) - 1 hand it to the next call.
+ * A curve that a call is given is its degree n, its sum of steps and its sides, four for each of the rectangles 0 to n.
+ * Sides that the buffer does not have count as zero, and sides past rectangle n are not read. A call without a
+ * parameter sum never looks at the sum. A curve that a call gives is JUSQANI_CURVE_LENGTH(n) numbers: its degree, its
+ * sum, then its sides; so `curve[0]`, `curve[1]`, `curve + 2` and JUSQANI_CURVE_LENGTH(n) - 2 hand it to the next call.
+ *
+ * The sum of steps, 0 to 65,535, tells how far the roundings may have moved a curve's sides. Reading a card sets it to
+ * 0; a cut puts the curve's sum plus its degree in both pieces; a raising adds 1. For any curve reached from a card by
+ * our cuts and raisings, no side is farther out than the same steps without rounding give by more than that sum, and
+ * none lies short. A card is written without the sum: a piece that is written and read again is equal but for its sum,
+ * which is 0, and counts from its own rectangles.
  *
  * A call that answers a uint64_t answers 0 on success. Any other answer is a refusal: JUSQANI_NUMBER(answer) says what
  * was refused and JUSQANI_PLACE(answer) where. These are all the refusals; the place is 0 unless said:
@@ -31,6 +37,7 @@
  *   14  with the spread a side is out of range (16,384 ohms either way); place: 0 the resistance, 1 the reactance
  *   15  j is above 16
  *   16  the list of settings is empty or longer than 64; place: its length, 2^32 - 1 if longer
+ *   17  the sum of steps would pass 65,535
  *
  * A call tries them in the order in which its paragraph lists them, 12 last. A refused call changes no buffer. A call
  * that is not refused stores its result in front of each buffer that it is lent for it, and what lies past the result
@@ -62,7 +69,7 @@ extern "C" {
 /* The numbers of a rectangle, of a curve of degree n, of a verdict and of a choice; the bytes of the card of a curve of
  * degree n; the most records of a list of settings. */
 #define JUSQANI_RECT_LENGTH 4
-#define JUSQANI_CURVE_LENGTH(n) (1 + 4 * ((n) + 1))
+#define JUSQANI_CURVE_LENGTH(n) (2 + 4 * ((n) + 1))
 #define JUSQANI_VERDICT_LENGTH 4
 #define JUSQANI_CHOICE_LENGTH 3
 #define JUSQANI_CARD_LENGTH(n) (11 + 41 * ((n) + 1))
@@ -110,19 +117,20 @@ uint64_t jusqani_evaluate_sixteenths(uint32_t degree, const int32_t *sides, size
 
 /*
  * Subdivides the curve at num/den. The piece up to num/den is stored in left and the piece from there on in right,
- * each a curve of the same degree; *exact is that of jusqani_evaluate at num/den. Refusals 1, 2, 3, 4, 5 and 12: either
- * buffer is shorter than JUSQANI_CURVE_LENGTH(degree). A refusal changes neither buffer nor *exact, and both buffers
- * keep what lies past the piece.
+ * each a curve of the same degree with the sum sum + degree; *exact is that of jusqani_evaluate at num/den. Refusals 1,
+ * 2, 3, 4, 5, 17: sum + degree is above 65,535, and 12: either buffer is shorter than JUSQANI_CURVE_LENGTH(degree). A
+ * refusal changes neither buffer nor *exact, and both buffers keep what lies past the piece.
  */
-uint64_t jusqani_subdivide(uint32_t degree, const int32_t *sides, size_t sides_length, uint32_t num, uint32_t den,
-                           int32_t *left, size_t left_length, int32_t *right, size_t right_length, uint32_t *exact);
+uint64_t jusqani_subdivide(uint32_t degree, uint16_t sum, const int32_t *sides, size_t sides_length, uint32_t num,
+                           uint32_t den, int32_t *left, size_t left_length, int32_t *right, size_t right_length,
+                           uint32_t *exact);
 
 /*
- * Raises the degree by one: the curve of degree + 1 is stored in raised; *exact tells whether none of its rectangles
- * was rounded. Refusals 1, 2, 3, 6 and 12: raised is shorter than JUSQANI_CURVE_LENGTH(degree + 1). A refusal changes
- * nothing, and raised keeps what lies past the curve.
+ * Raises the degree by one: the curve of degree + 1 with the sum sum + 1 is stored in raised; *exact tells whether none
+ * of its rectangles was rounded. Refusals 1, 2, 3, 6, 17: sum is 65,535, and 12: raised is shorter than
+ * JUSQANI_CURVE_LENGTH(degree + 1). A refusal changes nothing, and raised keeps what lies past the curve.
  */
-uint64_t jusqani_elevate(uint32_t degree, const int32_t *sides, size_t sides_length, int32_t *raised,
+uint64_t jusqani_elevate(uint32_t degree, uint16_t sum, const int32_t *sides, size_t sides_length, int32_t *raised,
                          size_t raised_length, uint32_t *exact);
 
 /*
@@ -140,12 +148,13 @@ uint64_t jusqani_bounds(uint32_t degree, const int32_t *sides, size_t sides_leng
  * index of the piece that Outside and Undecided name (0 and 0 for the others), and the number of pieces looked at.
  * Inside says that every load of every curve in the rectangles lies at or above the low sides and strictly below the
  * high sides; Outside, that no load lies in the box on the stretch of its piece, from index / 2^depth to
- * (index + 1) / 2^depth, both ends included. Refusals 1, 2, 3, 7, 8, 9 and 12: verdict is shorter than 4. A refusal
- * changes nothing, and verdict keeps what lies past the four.
+ * (index + 1) / 2^depth, both ends included. Refusals 1, 2, 3, 7, 8, 9, 17: sum + depth * degree is above 65,535, so
+ * that a piece at that depth would have no sum, and 12: verdict is shorter than 4. A refusal changes nothing, and
+ * verdict keeps what lies past the four.
  */
-uint64_t jusqani_search(uint32_t degree, const int32_t *sides, size_t sides_length, const int32_t *limits,
-                        size_t limits_length, uint32_t depth, uint32_t budget, uint32_t *verdict,
-                        size_t verdict_length);
+uint64_t jusqani_search(uint32_t degree, uint16_t sum, const int32_t *sides, size_t sides_length,
+                        const int32_t *limits, size_t limits_length, uint32_t depth, uint32_t budget,
+                        uint32_t *verdict, size_t verdict_length);
 
 /*
  * Chooses from a list of relay settings the first whose box is found to hold the curve. Each record has a walk, that of
@@ -153,10 +162,10 @@ uint64_t jusqani_search(uint32_t degree, const int32_t *sides, size_t sides_leng
  * numbers are stored in choice: JUSQANI_FITS, the index of the first record whose walk ends Inside, counted from 0, and
  * its setting number; or JUSQANI_NONE_FITS, 0 and 0, which is a normal result, exactly if no record's walk ends Inside.
  * Setting numbers may repeat, and the list is not changed. Refusals 16, which is tried before the curve; 1, 2, 3, 7,
- * for which every box of the list is tried before any walk, 8, 9 and 12: choice is shorter than 3. A refusal changes
- * nothing, and choice keeps what lies past the three.
+ * for which every box of the list is tried before any walk, 8, 9, 17: sum + depth * degree is above 65,535, and 12:
+ * choice is shorter than 3. A refusal changes nothing, and choice keeps what lies past the three.
  */
-uint64_t jusqani_choose_setting(uint32_t degree, const int32_t *sides, size_t sides_length,
+uint64_t jusqani_choose_setting(uint32_t degree, uint16_t sum, const int32_t *sides, size_t sides_length,
                                 const struct jusqani_setting *settings, size_t settings_length, uint32_t depth,
                                 uint32_t budget, uint32_t *choice, size_t choice_length);
 
@@ -173,15 +182,15 @@ uint64_t jusqani_choose_setting(uint32_t degree, const int32_t *sides, size_t si
 uint64_t jusqani_enclose(const float *ohms, size_t ohms_length, int32_t *rect, size_t rect_length, uint32_t *found);
 
 /*
- * Reads the card in card[0 .. card_length). Its curve is stored in curve. Refusals 10 (shorter than a first line), 11
- * in the first line, 1, 10, 11 in the other lines, 2, 3 and 12: curve is shorter than JUSQANI_CURVE_LENGTH of the
- * card's degree. A refusal changes nothing, and curve keeps what lies past the curve.
+ * Reads the card in card[0 .. card_length). Its curve, with the sum 0, is stored in curve. Refusals 10 (shorter than a
+ * first line), 11 in the first line, 1, 10, 11 in the other lines, 2, 3 and 12: curve is shorter than
+ * JUSQANI_CURVE_LENGTH of the card's degree. A refusal changes nothing, and curve keeps what lies past the curve.
  */
 uint64_t jusqani_read_card(const uint8_t *card, size_t card_length, int32_t *curve, size_t curve_length);
 
 /*
- * Writes the curve as a card: JUSQANI_CARD_LENGTH(degree) bytes are stored in card. Refusals 1, 2, 3 and 12: card is
- * shorter than that. A refusal changes nothing, and card keeps its later bytes.
+ * Writes the curve as a card, which is without its sum: JUSQANI_CARD_LENGTH(degree) bytes are stored in card. Refusals
+ * 1, 2, 3 and 12: card is shorter than that. A refusal changes nothing, and card keeps its later bytes.
  */
 uint64_t jusqani_write_card(uint32_t degree, const int32_t *sides, size_t sides_length, uint8_t *card,
                             size_t card_length);

@@ -48,6 +48,7 @@ const char *meaning(uint32_t number)
     case 14: return "with the spread a side is out of range (16,384 ohms either way)";
     case 15: return "j is above 16";
     case 16: return "the list of settings is empty or longer than 64";
+    case 17: return "the sum of steps would pass 65,535";
     default: return "not a refusal of the calls that are used here";
     }
 }

@@ -15,6 +15,9 @@
 
 #define STEPS_PER_OHM 1024.0
 
+/* The numbers of a curve in front of its sides: its degree and its sum of steps. */
+#define CURVE_HEAD 2
+
 /* The number that an argument gives, at most a largest one; anything else ends the program. */
 uint32_t argument(const char *text, uint32_t largest);
 

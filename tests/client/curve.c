@@ -9,6 +9,7 @@
 #include "jusqani.h"
 
 #define MAX_CURVE JUSQANI_CURVE_LENGTH(8)
+#define MAX_SIDES (MAX_CURVE - CURVE_HEAD)
 
 /* What the flag holds before a call; an accepted one stores 0 or 1 there. */
 #define UNTOUCHED UINT32_MAX
@@ -50,6 +51,72 @@ static void check_order(void)
     require(refused_past_the_end(1, 0, 0) == 15, "j is refused before the room for the load");
 }
 
+/* Cuts a curve of degree 8 with such a sum in the middle, with so much room for each piece; checks what is stored. */
+static uint64_t cut_with_sum(uint16_t sum, size_t room)
+{
+    static const int32_t sides[MAX_SIDES];
+    int32_t left[MAX_CURVE] = {-1, -1}, right[MAX_CURVE] = {-1, -1};
+    uint32_t exact = UNTOUCHED;
+    uint64_t answer = jusqani_subdivide(8, sum, sides, MAX_SIDES, 1, 2, left, room, right, room, &exact);
+    int32_t degree = answer == 0 ? 8 : -1, after = answer == 0 ? sum + 8 : -1;
+    require(left[0] == degree && right[0] == degree, "both pieces have the degree, and a refused cut stores nothing");
+    require(left[1] == after && right[1] == after, "both pieces have the sum plus the degree");
+    return answer;
+}
+
+/* Raises a curve of such a degree and sum; checks what is stored. */
+static uint64_t raise_with_sum(uint32_t degree, uint16_t sum)
+{
+    static const int32_t sides[MAX_SIDES];
+    int32_t raised[MAX_CURVE] = {-1, -1};
+    uint32_t exact = UNTOUCHED;
+    uint64_t answer = jusqani_elevate(degree, sum, sides, MAX_SIDES, raised, MAX_CURVE, &exact);
+    require(raised[1] == (answer == 0 ? sum + 1 : -1), "a raising adds 1 to the sum, and a refused one stores nothing");
+    return answer;
+}
+
+/* The sum of steps ends at 65,535; it is tried behind all others but the room. */
+static void check_sums(void)
+{
+    require(cut_with_sum(65527, MAX_CURVE) == 0, "a cut may reach the sum 65,535");
+    require(cut_with_sum(65528, MAX_CURVE) == 17, "a cut past the sum 65,535 is refused with 17");
+    require(cut_with_sum(65528, 0) == 17, "the sum is refused before the room for the pieces");
+    require(cut_with_sum(65527, MAX_CURVE - 1) == ((uint64_t)MAX_CURVE << 32 | 12), "a piece needs room for its sum");
+    require(raise_with_sum(7, 65534) == 0, "a raising may reach the sum 65,535");
+    require(raise_with_sum(7, 65535) == 17, "a raising past the sum 65,535 is refused with 17");
+    require(raise_with_sum(8, 65535) == 6, "the highest degree is refused before the sum");
+}
+
+/* Values 1, 0, 3 are cut in the middle, and the right piece is handed on twice: to be raised, and to a card. */
+static void check_handing_on(void)
+{
+    static const int32_t sides[] = {1, 1, 0, 0, 0, 0, 0, 0, 3, 3, 0, 0};
+    int32_t left[MAX_CURVE], piece[MAX_CURVE], raised[MAX_CURVE], again[MAX_CURVE];
+    uint8_t card[JUSQANI_CARD_LENGTH(2)];
+    uint32_t exact;
+    const size_t length = JUSQANI_CURVE_LENGTH(2);
+    require(jusqani_subdivide(2, 0, sides, 12, 1, 2, left, length, piece, length, &exact) == 0 && piece[1] == 2,
+            "a piece has the sum of its parent plus the degree");
+    require(jusqani_elevate((uint32_t)piece[0], (uint16_t)piece[1], piece + CURVE_HEAD, length - CURVE_HEAD, raised,
+                            MAX_CURVE, &exact) == 0
+                && raised[0] == 3 && raised[1] == 3,
+            "a piece that is handed on keeps its sum");
+    require(jusqani_write_card((uint32_t)piece[0], piece + CURVE_HEAD, length - CURVE_HEAD, card, sizeof card) == 0
+                && jusqani_read_card(card, sizeof card, again, length) == 0,
+            "a piece is written and read again");
+    require(again[1] == 0, "a curve off a card has the sum 0");
+    piece[1] = 0;
+    require(memcmp(again, piece, length * sizeof *piece) == 0, "a piece read again is equal but for its sum");
+}
+
+/* What holds whatever the card is. */
+static void check_calls(void)
+{
+    check_order();
+    check_sums();
+    check_handing_on();
+}
+
 int main(int argc, char **argv)
 {
     uint8_t card[MAX_CARD];
@@ -67,14 +134,15 @@ int main(int argc, char **argv)
     size_t curve_length = argc > 3 ? argument(argv[3], MAX_CURVE) : MAX_CURVE;
     size_t load_length = argc > 4 ? argument(argv[4], JUSQANI_RECT_LENGTH) : JUSQANI_RECT_LENGTH;
     size_t card_length = read_input(card);
-    check_order();
+    check_calls();
     uint64_t answer = jusqani_read_card(card, card_length, curve, curve_length);
     if (answer == 0) {
-        size_t sides = (size_t)JUSQANI_CURVE_LENGTH(curve[0]) - 1;
+        const int32_t *sides = curve + CURVE_HEAD;
+        size_t length = (size_t)JUSQANI_CURVE_LENGTH(curve[0]) - CURVE_HEAD;
         uint32_t degree = (uint32_t)curve[0];
-        answer = summed ? jusqani_evaluate_sixteenths(degree, curve + 1, sides, last, load, load_length, ohms,
+        answer = summed ? jusqani_evaluate_sixteenths(degree, sides, length, last, load, load_length, ohms,
                                                       load_length, &exact)
-                        : jusqani_evaluate(degree, curve + 1, sides, num, last, load, load_length, ohms,
+                        : jusqani_evaluate(degree, sides, length, num, last, load, load_length, ohms,
                                            load_length, &exact);
     }
     if (answer != 0) {

@@ -1,6 +1,7 @@
 /* Chooses a relay setting for a card's curve: shows the number of the first that fits and its record's index, or that
  * none fits, or a refusal with its place. A box is four sides in steps: resistance low, high, reactance low, high.
- * usage: settings [--choice LENGTH] DEPTH BUDGET [R-LOW R-HIGH X-LOW X-HIGH NUMBER]... < CARD */
+ * The curve is given the sum of steps SUM, or that of the card, which is 0.
+ * usage: settings [--choice LENGTH] [--sum SUM] DEPTH BUDGET [R-LOW R-HIGH X-LOW X-HIGH NUMBER]... < CARD */
 #include <errno.h>
 #include <inttypes.h>
 #include <stddef.h>
@@ -12,6 +13,7 @@
 #include "jusqani.h"
 
 #define MAX_CURVE JUSQANI_CURVE_LENGTH(8)
+#define MAX_SIDES (MAX_CURVE - CURVE_HEAD)
 #define MAX_CHOICE 6
 
 /* A record's arguments, and the most records that can be lent: more than the call takes. */
@@ -20,6 +22,9 @@
 
 /* What the buffer holds before a call; no call stores it. */
 #define FILL UINT32_MAX
+
+/* The verdict of a walk that finds every load in the box. */
+#define INSIDE 1
 
 /* The record's layout, as the header states it and the library reads it. */
 _Static_assert(sizeof(struct jusqani_setting) == 20, "a setting has 20 bytes");
@@ -55,13 +60,14 @@ static int kept(const uint32_t *choice, size_t from)
 }
 
 /* The refusal of a list of so many records without a box, for a curve with such a first rectangle and zeros behind it,
- * too deep, without a budget and with no room for a choice. */
+ * too deep, without a budget, with the greatest sum and with no room for a choice. */
 static uint32_t refused_all(size_t count, uint32_t degree, int32_t low, int32_t high)
 {
     static const struct jusqani_setting no_boxes[JUSQANI_MAX_SETTINGS + 1];
     const int32_t sides[JUSQANI_RECT_LENGTH] = {low, high, low, high};
     uint32_t choice[MAX_CHOICE] = {FILL, FILL, FILL, FILL, FILL, FILL};
-    uint64_t answer = jusqani_choose_setting(degree, sides, JUSQANI_RECT_LENGTH, no_boxes, count, 13, 0, choice, 0);
+    uint64_t answer =
+        jusqani_choose_setting(degree, UINT16_MAX, sides, JUSQANI_RECT_LENGTH, no_boxes, count, 13, 0, choice, 0);
     require(kept(choice, 0), "a refused call changes nothing");
     return JUSQANI_NUMBER(answer);
 }
@@ -75,7 +81,34 @@ static void check_order(void)
     require(refused_all(64, 9, 0, 16777217) == 1, "a degree is refused before a side");
     require(refused_all(64, 1, 1, 16777217) == 2, "a side out of range is refused before a box");
     require(refused_all(64, 1, 1, 0) == 3, "a low side above its high side is refused before a box");
-    require(refused_all(64, 1, 0, 0) == 7, "a box is refused before depth, budget and the room for the choice");
+    require(refused_all(64, 1, 0, 0) == 7, "a box is refused before depth, budget, sum and the room for the choice");
+}
+
+/* The refusal of a curve of degree 8 with such a sum that lies in a box, by the walk and by the list of that box. */
+static uint64_t refused_at(uint16_t sum, uint32_t depth, uint32_t budget, size_t room)
+{
+    static const struct jusqani_setting about = {{-1, 1, -1, 1}, 7};
+    static const int32_t sides[MAX_SIDES];
+    uint32_t verdict[JUSQANI_VERDICT_LENGTH] = {FILL}, choice[JUSQANI_CHOICE_LENGTH] = {FILL};
+    uint64_t walked = jusqani_search(8, sum, sides, MAX_SIDES, about.limits, JUSQANI_RECT_LENGTH, depth, budget, verdict,
+                                     room == 0 ? 0 : JUSQANI_VERDICT_LENGTH);
+    uint64_t chosen = jusqani_choose_setting(8, sum, sides, MAX_SIDES, &about, 1, depth, budget, choice, room);
+    require(JUSQANI_NUMBER(walked) == JUSQANI_NUMBER(chosen), "a walk and a list are refused alike");
+    require(verdict[0] == (walked == 0 ? INSIDE : FILL), "the walk ends Inside, and a refused one stores nothing");
+    require(choice[0] == (chosen == 0 ? JUSQANI_FITS : FILL), "its box fits, and a refused list stores nothing");
+    return chosen;
+}
+
+/* A walk has room for the sum of a piece at its depth limit, whatever it finds; only the room is tried later. */
+static void check_sums(void)
+{
+    require(refused_at(65535, 0, 1, JUSQANI_CHOICE_LENGTH) == 0, "at depth 0 any sum is accepted");
+    require(refused_at(65535, 1, 1, JUSQANI_CHOICE_LENGTH) == 17, "at depth 1 the sum 65,535 is refused");
+    require(refused_at(65439, 12, 1, JUSQANI_CHOICE_LENGTH) == 0, "the greatest depth may reach the sum 65,535");
+    require(refused_at(65440, 12, 1, JUSQANI_CHOICE_LENGTH) == 17, "a step more is refused at the greatest depth");
+    require(refused_at(65535, 13, 1, 0) == 8, "depth is refused before the sum");
+    require(refused_at(65535, 12, 0, 0) == 9, "budget is refused before the sum");
+    require(refused_at(65535, 12, 1, 0) == 17, "the sum is refused before the room");
 }
 
 /* Shows what was chosen. */
@@ -100,7 +133,7 @@ static void fill_gaps(size_t count, int filling)
 }
 
 /* Chooses from the first settings for the card on standard input, and shows what came. */
-static int choose(size_t count, uint32_t depth, uint32_t budget, size_t choice_length)
+static int choose(size_t count, uint16_t sum, uint32_t depth, uint32_t budget, size_t choice_length)
 {
     static struct jusqani_setting before[MAX_LIST];
     uint8_t card[MAX_CARD];
@@ -110,14 +143,16 @@ static int choose(size_t count, uint32_t depth, uint32_t budget, size_t choice_l
     size_t card_length = read_input(card);
     uint64_t answer = jusqani_read_card(card, card_length, curve, MAX_CURVE);
     if (answer == 0) {
-        size_t length = (size_t)JUSQANI_CURVE_LENGTH(curve[0]) - 1;
+        const int32_t *sides = curve + CURVE_HEAD;
+        size_t length = (size_t)JUSQANI_CURVE_LENGTH(curve[0]) - CURVE_HEAD;
+        uint32_t degree = (uint32_t)curve[0];
         fill_gaps(count, 0x00);
-        answer = jusqani_choose_setting((uint32_t)curve[0], curve + 1, length, settings, count, depth, budget, choice,
+        answer = jusqani_choose_setting(degree, sum, sides, length, settings, count, depth, budget, choice,
                                         choice_length);
         fill_gaps(count, 0xa5);
         memcpy(before, settings, sizeof before);
-        require(answer == jusqani_choose_setting((uint32_t)curve[0], curve + 1, length, settings, count, depth, budget,
-                                                 again, choice_length)
+        require(answer == jusqani_choose_setting(degree, sum, sides, length, settings, count, depth, budget, again,
+                                                 choice_length)
                     && memcmp(choice, again, sizeof choice) == 0,
                 "what lies behind a record's number does not matter");
         require(memcmp(before, settings, sizeof before) == 0, "the list is unchanged");
@@ -131,17 +166,26 @@ static int choose(size_t count, uint32_t depth, uint32_t budget, size_t choice_l
     return 0;
 }
 
+/* The number behind an option, if it is the first of the arguments that are left, or another one where it is not. */
+static uint32_t option(char ***left, const char *name, uint32_t largest, uint32_t otherwise)
+{
+    char **text = *left;
+    if (text[0] == NULL || strcmp(text[0], name) != 0 || text[1] == NULL)
+        return otherwise;
+    *left += 2;
+    return argument(text[1], largest);
+}
+
 int main(int argc, char **argv)
 {
-    size_t choice_length = JUSQANI_CHOICE_LENGTH;
-    int first = 1;
-    if (argc > 2 && strcmp(argv[1], "--choice") == 0) {
-        choice_length = argument(argv[2], MAX_CHOICE);
-        first = 3;
-    }
+    char **left = argv + 1;
+    size_t choice_length = option(&left, "--choice", MAX_CHOICE, JUSQANI_CHOICE_LENGTH);
+    uint16_t sum = (uint16_t)option(&left, "--sum", UINT16_MAX, 0);
+    int first = (int)(left - argv);
     int numbers = argc - first - 2;
     if (numbers < 0 || numbers % RECORD_LENGTH != 0 || numbers / RECORD_LENGTH > MAX_LIST) {
-        fprintf(stderr, "usage: %s [--choice LENGTH] DEPTH BUDGET [R-LOW R-HIGH X-LOW X-HIGH NUMBER]... < CARD\n",
+        fprintf(stderr,
+                "usage: %s [--choice LENGTH] [--sum SUM] DEPTH BUDGET [R-LOW R-HIGH X-LOW X-HIGH NUMBER]... < CARD\n",
                 argv[0]);
         return BAD_USAGE;
     }
@@ -151,5 +195,6 @@ int main(int argc, char **argv)
     for (size_t k = 0; k < count; k++)
         settings[k] = setting(argv + first + 2 + RECORD_LENGTH * k);
     check_order();
-    return choose(count, depth, budget, choice_length);
+    check_sums();
+    return choose(count, sum, depth, budget, choice_length);
 }

@@ -25,6 +25,7 @@
 #define MAX_DEPTH 12
 #define MAX_BUDGET 8191
 #define MAX_CURVE JUSQANI_CURVE_LENGTH(8)
+#define MAX_SIDES (MAX_CURVE - CURVE_HEAD)
 #define MAX_CARD_LENGTH JUSQANI_CARD_LENGTH(8)
 #define LOAD_BYTES 16
 #define MAX_MEASURED 3
@@ -59,48 +60,49 @@ static void call_panel(void)
 static void call_evaluate(void)
 {
     COUNT_FROM_HERE;
-    answer = jusqani_evaluate((uint32_t)curve[0], curve + 1, MAX_CURVE - 1, num, den, first, MAX_CURVE, ohms,
+    answer = jusqani_evaluate((uint32_t)curve[0], curve + CURVE_HEAD, MAX_SIDES, num, den, first, MAX_CURVE, ohms,
                               JUSQANI_RECT_LENGTH, &exact);
 }
 
 static void call_evaluate_sixteenths(void)
 {
     COUNT_FROM_HERE;
-    answer = jusqani_evaluate_sixteenths((uint32_t)curve[0], curve + 1, MAX_CURVE - 1, sixteenths, first, MAX_CURVE,
-                                         ohms, JUSQANI_RECT_LENGTH, &exact);
+    answer = jusqani_evaluate_sixteenths((uint32_t)curve[0], curve + CURVE_HEAD, MAX_SIDES, sixteenths, first,
+                                         MAX_CURVE, ohms, JUSQANI_RECT_LENGTH, &exact);
 }
 
 static void call_subdivide(void)
 {
     COUNT_FROM_HERE;
-    answer = jusqani_subdivide((uint32_t)curve[0], curve + 1, MAX_CURVE - 1, num, den, first, MAX_CURVE, second,
-                               MAX_CURVE, &exact);
+    answer = jusqani_subdivide((uint32_t)curve[0], (uint16_t)curve[1], curve + CURVE_HEAD, MAX_SIDES, num, den, first,
+                               MAX_CURVE, second, MAX_CURVE, &exact);
 }
 
 static void call_elevate(void)
 {
     COUNT_FROM_HERE;
-    answer = jusqani_elevate((uint32_t)curve[0], curve + 1, MAX_CURVE - 1, first, MAX_CURVE, &exact);
+    answer = jusqani_elevate((uint32_t)curve[0], (uint16_t)curve[1], curve + CURVE_HEAD, MAX_SIDES, first, MAX_CURVE,
+                             &exact);
 }
 
 static void call_bounds(void)
 {
     COUNT_FROM_HERE;
-    answer = jusqani_bounds((uint32_t)curve[0], curve + 1, MAX_CURVE - 1, first, MAX_CURVE);
+    answer = jusqani_bounds((uint32_t)curve[0], curve + CURVE_HEAD, MAX_SIDES, first, MAX_CURVE);
 }
 
 static void call_search(void)
 {
     COUNT_FROM_HERE;
-    answer = jusqani_search((uint32_t)curve[0], curve + 1, MAX_CURVE - 1, limits, JUSQANI_RECT_LENGTH, MAX_DEPTH,
-                            MAX_BUDGET, verdict, JUSQANI_VERDICT_LENGTH);
+    answer = jusqani_search((uint32_t)curve[0], (uint16_t)curve[1], curve + CURVE_HEAD, MAX_SIDES, limits,
+                            JUSQANI_RECT_LENGTH, MAX_DEPTH, MAX_BUDGET, verdict, JUSQANI_VERDICT_LENGTH);
 }
 
 static void call_choose_setting(void)
 {
     COUNT_FROM_HERE;
-    answer = jusqani_choose_setting((uint32_t)curve[0], curve + 1, MAX_CURVE - 1, settings, JUSQANI_MAX_SETTINGS,
-                                    MAX_DEPTH, MAX_BUDGET, choice, JUSQANI_CHOICE_LENGTH);
+    answer = jusqani_choose_setting((uint32_t)curve[0], (uint16_t)curve[1], curve + CURVE_HEAD, MAX_SIDES, settings,
+                                    JUSQANI_MAX_SETTINGS, MAX_DEPTH, MAX_BUDGET, choice, JUSQANI_CHOICE_LENGTH);
 }
 
 static void call_enclose(void)
@@ -118,7 +120,7 @@ static void call_read_card(void)
 static void call_write_card(void)
 {
     COUNT_FROM_HERE;
-    answer = jusqani_write_card((uint32_t)curve[0], curve + 1, MAX_CURVE - 1, bytes, MAX_CARD_LENGTH);
+    answer = jusqani_write_card((uint32_t)curve[0], curve + CURVE_HEAD, MAX_SIDES, bytes, MAX_CARD_LENGTH);
 }
 
 static const struct {
@@ -228,10 +230,11 @@ static void measure_parameters(void)
  * to the piece at the curve's start. */
 static void set_limits(void)
 {
-    limits[0] = curve[1];
-    limits[1] = curve[1] + 1;
-    limits[2] = curve[3];
-    limits[3] = curve[3] + 1;
+    const int32_t *sides = curve + CURVE_HEAD;
+    limits[0] = sides[0];
+    limits[1] = sides[0] + 1;
+    limits[2] = sides[2];
+    limits[3] = sides[2] + 1;
     for (size_t k = 0; k < JUSQANI_MAX_SETTINGS; k++)
         memcpy(settings[k].limits, limits, sizeof limits);
 }

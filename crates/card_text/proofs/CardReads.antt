@@ -13,11 +13,11 @@ use Rattle.curve.specs.declared.Enclosure.{Enclosure}
 use Rattle.curve.specs.declared.Rect.{Rect}
 use Rattle.curve.specs.declared.Refusal.{Refusal}
 use Rattle.curve.specs.Limits.{maxDegree}
-use Rattle.curve.specs.Curve.{point, curveOf, SameCurve}
+use Rattle.curve.specs.Curve.{point, curveOf, SameButSum}
 use Rattle.curve.specs.Refusals.{none, unless, curveRefusal, degreeRefusal, Accepted}
 use Rattle.curve.proofs.Accepted.{accepted-ready}
 use Rattle.curve.proofs.Answers.{bounded-refusal}
-use Rattle.curve.proofs.PastUnread.{past-unread}
+use Rattle.curve_promises.proofs.PastUnread.{past-unread}
 use Rattle.curve.proofs.Places.{points-agree}
 use Rattle.curve.proofs.Points.{point-at}
 use Rattle.card_text.specs.Card.{header, rows, cardOf, headerLength, rowLength, cardLength, rowAt}
@@ -29,14 +29,14 @@ use Rattle.card_text.proofs.LinesRead.{header-read, row-read, each-row,
 use Rattle.card_text.proofs.ReadingAnswer.{card-later, read-accepted}
 use Rattle.card_text.proofs.Stands.{Stands, stands-whole, stands-first, stands-second}
 
--- equal curves have equal refusals
-pub same-refusal : (c e : Curve) → SameCurve c e → curveRefusal c ≡ curveRefusal e
+-- curves that are equal but for their sums have equal refusals
+pub same-refusal : (c e : Curve) → SameButSum c e → curveRefusal c ≡ curveRefusal e
 same-refusal c e same =
-    sym (bounded-refusal c) ∙ ap (λ (x : Enclosure). x .refusal) (past-unread c e same .3) ∙ bounded-refusal e
+    sym (bounded-refusal c) ∙ ap (λ (x : Enclosure). x .refusal) (past-unread .bounding c e same) ∙ bounded-refusal e
 
--- a curve is equal to itself with zero past its degree
-pub same-trimmed : (c : Curve) → c .degree ≤ maxDegree → SameCurve c (curveOf (c .degree) (point c))
-same-trimmed c few = record { degrees = refl; controls = λ k h. sym (point-at (c .degree) (point c) k few h) }
+-- a curve is equal to itself with zero past its degree, but for the sum
+pub same-trimmed : (c : Curve) → c .degree ≤ maxDegree → SameButSum c (curveOf (c .degree) 0 (point c))
+same-trimmed c few = record { degrees = refl; controls = λ k h. sym (point-at (c .degree) 0 (point c) k few h) }
 
 module _ (c : Curve) (ok : Accepted c) where
   abbrev n : ℕ
@@ -67,11 +67,11 @@ module _ (c : Curve) (ok : Accepted c) where
   unfolding decoded
   degree = ap degreeOf (header-read card n few first .1) ∙ degree-of-pos n few
 
-  curve : decoded card ≡ curveOf n (point c)
+  curve : decoded card ≡ curveOf n 0 (point c)
   unfolding decoded
   curve =
-      ap (λ (m : ℕ). curveOf m (λ k. rectAt card (rowAt k))) degree
-      ∙ ap (λ (l : List Rect). record { degree = n; points = l }) (points-agree n (λ k. rectAt card (rowAt k)) (point c) (λ k h. line k h .1))
+      ap (λ (m : ℕ). curveOf m 0 (λ k. rectAt card (rowAt k))) degree
+      ∙ ap (λ (l : List Rect). record { degree = n; sum = 0; points = l }) (points-agree n (λ k. rectAt card (rowAt k)) (point c) (λ k h. line k h .1))
 
   -- none of the refusals applies
   none-degree : degreeRefusal (decoded card .degree) ≡ none
@@ -98,8 +98,8 @@ module _ (c : Curve) (ok : Accepted c) where
       card-later card (ap (λ (r : Refusal). r .number) none-first)
       ∙ or-none (rowsRefusal card (decoded card .degree + 1)) (curveRefusal (decoded card))
       (ap (λ (m : ℕ). rowsRefusal card (m + 1)) degree ∙ rows-read card (n + 1) (λ k h. line k (omega arith) .0))
-      (ap curveRefusal curve ∙ sym (same-refusal c (curveOf n (point c)) (same-trimmed c few)) ∙ ok)
+      (ap curveRefusal curve ∙ sym (same-refusal c (curveOf n 0 (point c)) (same-trimmed c few)) ∙ ok)
 
-  pub card-reads : readCard (cardOf c) ≡ record { refusal = none; curve = curveOf (c .degree) (point c) }
+  pub card-reads : readCard (cardOf c) ≡ record { refusal = none; curve = curveOf (c .degree) 0 (point c) }
   card-reads =
       sym (read-accepted card (sym none-all) refl) ∙ ap (λ (x : Curve). record { refusal = none; curve = x }) curve

@@ -37,10 +37,10 @@ first-two a b b′ same (suc m) from = by (a from) (b from) refl refl (first-two
 module _ (n : ℕ) (P : ℕ → Rect) (few : n ≤ maxDegree) where
   -- the two curves
   abbrev given : Curve
-  given = curveOf n P
+  given = curveOf n 0 P
 
   abbrev held : Curve
-  held = curveOf n (λ k. limitedRect (P k))
+  held = curveOf n 0 (λ k. limitedRect (P k))
 
   zero-limited : limitedRect zeroRect ≡ zeroRect
   unfolding limitedRect limitedEnds limited inRange
@@ -50,10 +50,10 @@ module _ (n : ℕ) (P : ℕ → Rect) (few : n ≤ maxDegree) where
   point-limited k = by (decLe k n)
     where
       by : Dec (k ≤ n) → point held k ≡ limitedRect (point given k)
-      by (yes h) = point-at n (λ i. limitedRect (P i)) k few h ∙ ap limitedRect (sym (point-at n P k few h))
+      by (yes h) = point-at n 0 (λ i. limitedRect (P i)) k few h ∙ ap limitedRect (sym (point-at n 0 P k few h))
       by (no h) =
           let past : n < k = omega arith in
-          point-past n (λ i. limitedRect (P i)) k past ∙ sym (ap limitedRect (point-past n P k past) ∙ zero-limited)
+          point-past n 0 (λ i. limitedRect (P i)) k past ∙ sym (ap limitedRect (point-past n 0 P k past) ∙ zero-limited)
 
   range-limited : (k : ℕ) → sidesInRange (point held k) ≡ sidesInRange (point given k)
   range-limited k = ap sidesInRange (point-limited k) ∙ rect-range (point given k)
@@ -71,6 +71,6 @@ module _ (n : ℕ) (P : ℕ → Rect) (few : n ≤ maxDegree) where
 
   pub curve-limited : Accepted given → held ≡ given
   curve-limited ok =
-      ap (λ (l : List Rect). record { degree = n; points = l })
+      ap (λ (l : List Rect). record { degree = n; sum = 0; points = l })
       (points-agree n (λ k. limitedRect (P k)) P
-      (λ k h. rect-in (P k) (ap sidesInRange (sym (point-at n P k few h)) ∙ holds-true (sidesInRange (point given k)) (sides-range (point given k) (accepted-facts given ok .inRange k h)))))
+      (λ k h. rect-in (P k) (ap sidesInRange (sym (point-at n 0 P k few h)) ∙ holds-true (sidesInRange (point given k)) (sides-range (point given k) (accepted-facts given ok .inRange k h)))))

@@ -65,4 +65,4 @@ module _ (bytes : List ℕ) where
       ∙ stands-is (stands-sized (sym (f .size)) (stands-both (header-stands f) (rows-stand (n + 1) h)))
     where
       decoded-point : (k : ℕ) → decoded bytes .degree ≤ maxDegree → k ≤ decoded bytes .degree → point (decoded bytes) k ≡ rects k
-      decoded-point k few h = unfold decoded in point-at (degreeOf (numberAt bytes 0)) rects k few h
+      decoded-point k few h = unfold decoded in point-at (degreeOf (numberAt bytes 0)) 0 rects k few h

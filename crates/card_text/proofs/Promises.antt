@@ -11,7 +11,7 @@ use lib.Seq.{take-at}
 use Rattle.curve.specs.declared.Curve.{Curve}
 use Rattle.curve.specs.declared.Refusal.{Refusal}
 use Rattle.curve.specs.Rect.{zeroRect}
-use Rattle.curve.specs.Curve.{point, zeroCurve, SameCurve}
+use Rattle.curve.specs.Curve.{point, zeroCurve, SameButSum}
 use Rattle.curve.specs.Refusals.{none, _orElse_, curveRefusal, Accepted, unlessAt}
 use Rattle.curve.proofs.Tests.{or-split}
 use Rattle.curve.proofs.Accepted.{accepted-facts, number-accepted}
@@ -21,7 +21,7 @@ use Rattle.card_text.specs.declared.CardWritten.{CardWritten}
 use Rattle.card_text.specs.Card.{header, rows, cardOf, cardLength, rowAt}
 use Rattle.card_text.specs.Reading.{numberAt, degreeOf, rectAt, decoded, headerRefusal, rowsRefusal, cardRefusal, readCard}
 use Rattle.card_text.specs.Writing.{writingRefusal, writeCard, bytesAfter}
-use Rattle.card_text.specs.Promises.{CardLength, WrittenReads, ReadIsWritten, PastUnwritten, ReadZeroPast}
+use Rattle.card_text.specs.Promises.{CardLength, WrittenReads, ReadIsWritten, PastUnwritten, ReadZeroPast, ReadSum}
 use Rattle.card_text.proofs.CardReads.{card-reads, same-refusal, same-trimmed}
 use Rattle.card_text.proofs.Fitting.{card-long}
 use Rattle.card_text.proofs.LinesStand.{rows-agree, card-stands}
@@ -109,12 +109,16 @@ pub read-zero-past : ReadZeroPast
 unfolding decoded
 read-zero-past bytes k =
     either bytes (λ r. r .curve .degree < k → point (r .curve) k ≡ zeroRect)
-    (point-past (degreeOf (numberAt bytes 0)) (λ j. rectAt bytes (rowAt j)) k)
-    (point-past 0 (λ j. zeroRect) k)
+    (point-past (degreeOf (numberAt bytes 0)) 0 (λ j. rectAt bytes (rowAt j)) k)
+    (point-past 0 0 (λ j. zeroRect) k)
+
+pub read-sum : ReadSum
+unfolding decoded
+read-sum bytes = either bytes (λ r. r .curve .sum ≡ 0) refl refl
 
 -- ---- equal curves
 
-module _ (c e : Curve) (same : SameCurve c e) where
+module _ (c e : Curve) (same : SameButSum c e) where
   same-card : cardOf c ≡ cardOf e
   unfolding cardOf
   same-card =

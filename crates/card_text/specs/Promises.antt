@@ -6,7 +6,7 @@ use Prim.Native.Nat.{ℕ, _≤_, _<_}
 use lib.ListN.{length, take}
 use Rattle.curve.specs.declared.Curve.{Curve}
 use Rattle.curve.specs.Rect.{zeroRect}
-use Rattle.curve.specs.Curve.{point, curveOf, SameCurve}
+use Rattle.curve.specs.Curve.{point, curveOf, SameButSum}
 use Rattle.curve.specs.Refusals.{none, Accepted}
 use Rattle.card_text.specs.Card.{cardOf, cardLength}
 use Rattle.card_text.specs.Reading.{readCard}
@@ -18,11 +18,11 @@ CardLength =
     (c : Curve) → Accepted c →
     (length (cardOf c) ≡ cardLength (c .degree)) × (93 ≤ length (cardOf c)) × (length (cardOf c) ≤ 380)
 
--- the bytes that the writer says it wrote are read, without a refusal, as the curve, with zero past its degree
+-- the bytes that the writer says it wrote are read, without a refusal, as the curve, with zero past its degree and the sum 0
 pub record ReadBack (c : Curve) (out : List ℕ) : Type 0 where
   pub size : writeCard c out .length ≡ cardLength (c .degree)
-  pub answer : readCard (take (writeCard c out .length) (bytesAfter c out)) ≡ record { refusal = none; curve = curveOf (c .degree) (point c) }
-  pub same : SameCurve c (curveOf (c .degree) (point c))
+  pub answer : readCard (take (writeCard c out .length) (bytesAfter c out)) ≡ record { refusal = none; curve = curveOf (c .degree) 0 (point c) }
+  pub same : SameButSum c (curveOf (c .degree) 0 (point c))
 
 abbrev pub WrittenReads : Type 0
 WrittenReads = (c : Curve) (out : List ℕ) → Accepted c → cardLength (c .degree) ≤ length out → ReadBack c out
@@ -36,9 +36,13 @@ pub record WrittenBack (bytes : List ℕ) : Type 0 where
 abbrev pub ReadIsWritten : Type 0
 ReadIsWritten = (bytes : List ℕ) → readCard bytes .refusal .number ≡ 0 → WrittenBack bytes
 
--- nothing past the degree is written, and what is read has zero there
+-- nothing past the degree is written and no sum of steps, and what is read has zero past its degree
 abbrev pub PastUnwritten : Type 0
-PastUnwritten = (c e : Curve) (out : List ℕ) → SameCurve c e → (writeCard c out ≡ writeCard e out) × (bytesAfter c out ≡ bytesAfter e out)
+PastUnwritten = (c e : Curve) (out : List ℕ) → SameButSum c e → (writeCard c out ≡ writeCard e out) × (bytesAfter c out ≡ bytesAfter e out)
 
 abbrev pub ReadZeroPast : Type 0
 ReadZeroPast = (bytes : List ℕ) (k : ℕ) → readCard bytes .curve .degree < k → point (readCard bytes .curve) k ≡ zeroRect
+
+-- a card that is read begins with the sum 0, and so is the sum of a refused one
+abbrev pub ReadSum : Type 0
+ReadSum = (bytes : List ℕ) → readCard bytes .curve .sum ≡ 0

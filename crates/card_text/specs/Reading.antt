@@ -47,9 +47,9 @@ intervalAt bytes at = record { low = numberAt bytes at; high = numberAt bytes (a
 unfoldable pub rectAt : List ℕ → ℕ → Rect
 rectAt bytes at = record { resistance = intervalAt bytes at; reactance = intervalAt bytes (at + 20) }
 
--- the curve that the numbers give, with whatever sides, however large
+-- the curve that the numbers give, with whatever sides, however large; its sum of steps is counted from here, so it is 0
 unfoldable pub decoded : List ℕ → Curve
-decoded bytes = curveOf (degreeOf (numberAt bytes 0)) (λ k. rectAt bytes (rowAt k))
+decoded bytes = curveOf (degreeOf (numberAt bytes 0)) 0 (λ k. rectAt bytes (rowAt k))
 
 -- ---- the refusals
 

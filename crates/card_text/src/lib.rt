@@ -51,6 +51,7 @@ pub fn read_card(bytes: &[u8]) -> CardRead
     let points = rows.points;
     let curve = Curve {
         degree: header.degree,
+        sum: 0,
         points,
     };
     let late = first_of(rows.refusal, curve_refusal(curve));

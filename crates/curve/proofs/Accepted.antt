@@ -1,4 +1,4 @@
--- What it means that a curve, a parameter and a call are not refused: number 0 says it, the facts about degree and sides say it, and the answers are then the results.
+-- What it means that a curve, a parameter, a sum of steps and a call are not refused: number 0 says it, the facts about degree and sides say it, and the answers are then the results.
 -- Assumes nothing.
 use mathlib.Core.Path.{_≡_, sym, ap, _∙_, subst}
 use mathlib.Core.Bool.{Bool, true, false, _&&_}
@@ -14,12 +14,12 @@ use Rattle.curve.specs.declared.Interval.{Interval}
 use Rattle.curve.specs.declared.Rect.{Rect}
 use Rattle.curve.specs.declared.Curve.{Curve}
 use Rattle.curve.specs.declared.Refusal.{Refusal}
-use Rattle.curve.specs.Limits.{maxDegree, maxDen, maxSide}
+use Rattle.curve.specs.Limits.{maxDegree, maxDen, maxSide, maxSum}
 use Rattle.curve.specs.Rect.{Coordinate, resistance, reactance, end, side, inRange, endsInRange, sidesInRange, endsOrdered, sidesOrdered}
-use Rattle.curve.specs.Curve.{point}
-use Rattle.curve.specs.Refusals.{none, _orElse_, unless, rangeRefusal, orderRefusal, curveRefusal, parameterRefusal, highestRefusal, degreeRefusal, Accepted, AcceptedAt}
+use Rattle.curve.specs.Curve.{point, pieceSum, elevatedSum}
+use Rattle.curve.specs.Refusals.{none, _orElse_, unless, rangeRefusal, orderRefusal, curveRefusal, parameterRefusal, highestRefusal, sumRefusal, degreeRefusal, Accepted, AcceptedAt, AcceptedSum}
 use Rattle.curve.specs.Inner.{Side, Held, Factors, Ready}
-use Rattle.curve.specs.Calls.{callRefusal, elevationRefusal}
+use Rattle.curve.specs.Calls.{callRefusal, subdivisionRefusal, elevationRefusal}
 use Rattle.curve.proofs.Tests.{true-of, both, join, or-split, or-none, unless-holds, unless-none, first-holds, first-none, between-holds, between-none}
 
 -- ---- sides
@@ -159,6 +159,22 @@ number-accepted-at num den h = parameter-accepted num den (number-parameter num 
 pub parameter-facts : (num den : ℕ) → AcceptedAt num den → ParameterFacts num den
 parameter-facts num den a = number-parameter num den (ap (λ (r : Refusal). r .number) a)
 
+-- ---- sums of steps
+
+number-most : (s : ℕ) → sumRefusal s .number ≡ 0 → s ≤ maxSum
+unfolding sumRefusal
+number-most s h = leb→le s maxSum (unless-holds (leb s maxSum) 16 0 h)
+
+pub most-accepted : (s : ℕ) → s ≤ maxSum → AcceptedSum s
+unfolding sumRefusal
+most-accepted s h = unless-none (leb s maxSum) 17 (le→leb s maxSum h)
+
+pub accepted-most : (s : ℕ) → AcceptedSum s → s ≤ maxSum
+accepted-most s a = number-most s (ap (λ (r : Refusal). r .number) a)
+
+pub number-accepted-sum : (s : ℕ) → sumRefusal s .number ≡ 0 → AcceptedSum s
+number-accepted-sum s h = most-accepted s (number-most s h)
+
 -- ---- calls
 
 pub call-accepted : (c : Curve) (num den : ℕ) → callRefusal c num den .number ≡ 0 → Accepted c × AcceptedAt num den
@@ -182,6 +198,34 @@ call-refused-at c num den h = ne-eqb (callRefusal c num den .number) 0 (λ e. eq
 pub accepted-call : (c : Curve) (num den : ℕ) → Accepted c → AcceptedAt num den → callRefusal c num den ≡ none
 accepted-call c num den a b = call-parameter c num den a ∙ b
 
+-- a subdivision: the same, and the sum of its pieces
+module _ (c : Curve) (num den : ℕ) where
+  pub subdivision-accepted : subdivisionRefusal c num den .number ≡ 0 → Accepted c × AcceptedAt num den × AcceptedSum (pieceSum c)
+  unfolding subdivisionRefusal
+  subdivision-accepted h =
+      let (first, last) = or-split (callRefusal c num den) (sumRefusal (pieceSum c)) h in
+      let (ok, at) = call-accepted c num den first in
+      (ok, at, number-accepted-sum (pieceSum c) last)
+
+  pub subdivision-own : Accepted c → subdivisionRefusal c num den ≡ (parameterRefusal num den orElse sumRefusal (pieceSum c))
+  unfolding subdivisionRefusal
+  subdivision-own a = ap (λ (r : Refusal). r orElse sumRefusal (pieceSum c)) (call-parameter c num den a)
+
+  pub subdivision-refused : eqb (callRefusal c num den .number) 0 ≡ false → eqb (subdivisionRefusal c num den .number) 0 ≡ false
+  subdivision-refused h =
+      ne-eqb (subdivisionRefusal c num den .number) 0 (λ e.
+      let (ok, at, room) = subdivision-accepted e in
+      eqb-false (callRefusal c num den .number) 0 h (ap (λ (r : Refusal). r .number) (accepted-call c num den ok at)))
+
+  pub subdivision-refused-sum : eqb (sumRefusal (pieceSum c) .number) 0 ≡ false → eqb (subdivisionRefusal c num den .number) 0 ≡ false
+  subdivision-refused-sum h =
+      ne-eqb (subdivisionRefusal c num den .number) 0 (λ e.
+      let (ok, at, room) = subdivision-accepted e in
+      eqb-false (sumRefusal (pieceSum c) .number) 0 h (ap (λ (r : Refusal). r .number) room))
+
+  pub accepted-subdivision : Accepted c → AcceptedAt num den → AcceptedSum (pieceSum c) → subdivisionRefusal c num den ≡ none
+  accepted-subdivision a b s = subdivision-own a ∙ or-none (parameterRefusal num den) (sumRefusal (pieceSum c)) b ∙ s
+
 -- the degree is below the highest
 pub number-highest : (n : ℕ) → highestRefusal n .number ≡ 0 → n < maxDegree
 unfolding highestRefusal
@@ -191,15 +235,16 @@ pub highest-accepted : (n : ℕ) → n < maxDegree → highestRefusal n ≡ none
 unfolding highestRefusal
 highest-accepted n h = unless-none (ltb n maxDegree) 6 (lt→ltb n maxDegree h)
 
-pub elevation-accepted : (c : Curve) → elevationRefusal c .number ≡ 0 → Accepted c × (c .degree < maxDegree)
+pub elevation-accepted : (c : Curve) → elevationRefusal c .number ≡ 0 → Accepted c × (c .degree < maxDegree) × AcceptedSum (elevatedSum c)
 unfolding elevationRefusal
 elevation-accepted c h =
-    let (first, second) = or-split (curveRefusal c) (highestRefusal (c .degree)) h in
-    (number-accepted c first, number-highest (c .degree) second)
+    let (first, own) = or-split (curveRefusal c) (highestRefusal (c .degree) orElse sumRefusal (elevatedSum c)) h in
+    let (second, last) = or-split (highestRefusal (c .degree)) (sumRefusal (elevatedSum c)) own in
+    (number-accepted c first, number-highest (c .degree) second, number-accepted-sum (elevatedSum c) last)
 
-pub elevation-highest : (c : Curve) → Accepted c → elevationRefusal c ≡ highestRefusal (c .degree)
+pub elevation-own : (c : Curve) → Accepted c → elevationRefusal c ≡ (highestRefusal (c .degree) orElse sumRefusal (elevatedSum c))
 unfolding elevationRefusal
-elevation-highest c a = or-none (curveRefusal c) (highestRefusal (c .degree)) a
+elevation-own c a = or-none (curveRefusal c) (highestRefusal (c .degree) orElse sumRefusal (elevatedSum c)) a
 
-pub accepted-elevation : (c : Curve) → Accepted c → c .degree < maxDegree → elevationRefusal c ≡ none
-accepted-elevation c a h = elevation-highest c a ∙ highest-accepted (c .degree) h
+pub accepted-elevation : (c : Curve) → Accepted c → c .degree < maxDegree → AcceptedSum (elevatedSum c) → elevationRefusal c ≡ none
+accepted-elevation c a h s = elevation-own c a ∙ or-none (highestRefusal (c .degree)) (sumRefusal (elevatedSum c)) (highest-accepted (c .degree) h) ∙ s

@@ -13,11 +13,11 @@ use Rattle.curve.specs.declared.Elevation.{Elevation}
 use Rattle.curve.specs.declared.Enclosure.{Enclosure}
 use Rattle.curve.specs.Limits.{maxDegree}
 use Rattle.curve.specs.Rect.{zeroRect}
-use Rattle.curve.specs.Curve.{zeroCurve, loadOf, leftOf, rightOf, tableExact, elevatedOf, elevationExact, boundsOf}
+use Rattle.curve.specs.Curve.{zeroCurve, pieceSum, loadOf, leftOf, rightOf, tableExact, elevatedSum, elevatedOf, elevationExact, boundsOf}
 use Rattle.curve.specs.Ohms.{ohmsOf, zeroOhms}
-use Rattle.curve.specs.Refusals.{none, curveRefusal, Accepted, AcceptedAt}
-use Rattle.curve.specs.Calls.{callRefusal, elevationRefusal, evaluated, subdivided, elevated, bounded}
-use Rattle.curve.proofs.Accepted.{accepted-call, accepted-elevation}
+use Rattle.curve.specs.Refusals.{none, curveRefusal, Accepted, AcceptedAt, AcceptedSum}
+use Rattle.curve.specs.Calls.{callRefusal, subdivisionRefusal, elevationRefusal, evaluated, subdivided, elevated, bounded}
+use Rattle.curve.proofs.Accepted.{accepted-call, accepted-subdivision, accepted-elevation}
 
 -- an answer chosen by a refusal's number: its value where nothing is refused, where something is, and what both share
 module _ {A : Type 0} (result zeros : Refusal → A) (r : Refusal) where
@@ -68,22 +68,22 @@ module _ (c : Curve) (num den : ℕ) where
   unfolding evaluated
   evaluated-refusal = in-both (evaluation (loadOf c num den) (tableExact c num den)) noEvaluation (callRefusal c num den) (λ x. x .refusal) _ refl refl
 
-  pub subdivided-accepted : Accepted c → AcceptedAt num den → subdivided c num den ≡ subdivision (leftOf c num den) (rightOf c num den) (tableExact c num den) none
+  pub subdivided-accepted : Accepted c → AcceptedAt num den → AcceptedSum (pieceSum c) → subdivided c num den ≡ subdivision (leftOf c num den) (rightOf c num den) (tableExact c num den) none
   unfolding subdivided
-  subdivided-accepted a b = where-none (subdivision (leftOf c num den) (rightOf c num den) (tableExact c num den)) noSubdivision (callRefusal c num den) (accepted-call c num den a b)
+  subdivided-accepted a b s = where-none (subdivision (leftOf c num den) (rightOf c num den) (tableExact c num den)) noSubdivision (subdivisionRefusal c num den) (accepted-subdivision c num den a b s)
 
-  pub subdivided-refused : eqb (callRefusal c num den .number) 0 ≡ false → subdivided c num den ≡ noSubdivision (callRefusal c num den)
+  pub subdivided-refused : eqb (subdivisionRefusal c num den .number) 0 ≡ false → subdivided c num den ≡ noSubdivision (subdivisionRefusal c num den)
   unfolding subdivided
-  subdivided-refused h = where-some (subdivision (leftOf c num den) (rightOf c num den) (tableExact c num den)) noSubdivision (callRefusal c num den) h
+  subdivided-refused h = where-some (subdivision (leftOf c num den) (rightOf c num den) (tableExact c num den)) noSubdivision (subdivisionRefusal c num den) h
 
-  pub subdivided-refusal : subdivided c num den .refusal ≡ callRefusal c num den
+  pub subdivided-refusal : subdivided c num den .refusal ≡ subdivisionRefusal c num den
   unfolding subdivided
-  subdivided-refusal = in-both (subdivision (leftOf c num den) (rightOf c num den) (tableExact c num den)) noSubdivision (callRefusal c num den) (λ x. x .refusal) _ refl refl
+  subdivided-refusal = in-both (subdivision (leftOf c num den) (rightOf c num den) (tableExact c num den)) noSubdivision (subdivisionRefusal c num den) (λ x. x .refusal) _ refl refl
 
 module _ (c : Curve) where
-  pub elevated-accepted : Accepted c → c .degree < maxDegree → elevated c ≡ elevation (elevatedOf c) (elevationExact c) none
+  pub elevated-accepted : Accepted c → c .degree < maxDegree → AcceptedSum (elevatedSum c) → elevated c ≡ elevation (elevatedOf c) (elevationExact c) none
   unfolding elevated
-  elevated-accepted a h = where-none (elevation (elevatedOf c) (elevationExact c)) noElevation (elevationRefusal c) (accepted-elevation c a h)
+  elevated-accepted a h s = where-none (elevation (elevatedOf c) (elevationExact c)) noElevation (elevationRefusal c) (accepted-elevation c a h s)
 
   pub elevated-refused : eqb (elevationRefusal c .number) 0 ≡ false → elevated c ≡ noElevation (elevationRefusal c)
   unfolding elevated

@@ -8,7 +8,7 @@ use native.Mathlib.Omega.{arith}
 use Rattle.curve.specs.declared.Rect.{Rect}
 use Rattle.curve.specs.Rect.{affineRect, exactRect}
 use Rattle.curve.specs.Curve.{elevatedPoint, elevatedExact}
-use Rattle.curve.proofs.EndPoints.{affine-rect-first, affine-rect-second, exact-rect-first, exact-rect-second}
+use Rattle.curve.proofs.WholeWeight.{affine-rect-first, affine-rect-second, exact-rect-first, exact-rect-second}
 
 module _ (n : ℕ) (P : ℕ → Rect) where
   pub elevated-first : P 0 ≡ elevatedPoint n P 0

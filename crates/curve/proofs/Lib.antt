@@ -1,4 +1,4 @@
--- Laws of the definitions in specs/, and the promises.
+-- Laws of the definitions in specs/.
 pub mod Machine
 pub mod Sides
 pub mod Estimate
@@ -15,15 +15,7 @@ pub mod Points
 pub mod Pieces
 pub mod Ranges
 pub mod Loads
-pub mod OhmsExact
-pub mod LoadOhms
-pub mod EndPoints
-pub mod EqualFractions
-pub mod PastUnread
-pub mod BoundsLeast
+pub mod WholeWeight
 pub mod BoundsHeld
-pub mod ZeroPast
 pub mod RectSides
-pub mod EqualAnswers
 pub mod ElevatedPoints
-pub mod Flags

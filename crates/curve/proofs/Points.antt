@@ -20,12 +20,12 @@ use Rattle.curve.proofs.Places.{points-at, points-past}
 -- ---- places
 
 -- the control points of a curve that is given by them
-pub point-at : (n : ℕ) (f : ℕ → Rect) (k : ℕ) → n ≤ maxDegree → k ≤ n → point (curveOf n f) k ≡ f k
-point-at n f k few h = points-at n f k (omega arith) h
+pub point-at : (n s : ℕ) (f : ℕ → Rect) (k : ℕ) → n ≤ maxDegree → k ≤ n → point (curveOf n s f) k ≡ f k
+point-at n s f k few h = points-at n f k (omega arith) h
 
 -- zero past its degree
-pub point-past : (n : ℕ) (f : ℕ → Rect) (k : ℕ) → n < k → point (curveOf n f) k ≡ zeroRect
-point-past = points-past
+pub point-past : (n s : ℕ) (f : ℕ → Rect) (k : ℕ) → n < k → point (curveOf n s f) k ≡ zeroRect
+point-past n s = points-past n
 
 -- ---- sides
 

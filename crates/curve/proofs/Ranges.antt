@@ -15,9 +15,9 @@ use Rattle.curve.specs.Rect.{Coordinate, resistance, reactance, side, ze
 use Rattle.curve.specs.Curve.{point, zeroCurve, leftOf, rightOf, elevatedOf}
 use Rattle.curve.specs.Refusals.{Accepted}
 use Rattle.curve.specs.Inner.{Side, Held}
-use Rattle.curve.specs.Calls.{callRefusal, elevationRefusal, subdivided, elevated}
+use Rattle.curve.specs.Calls.{subdivisionRefusal, elevationRefusal, subdivided, elevated}
 use Rattle.curve.proofs.Refused.{by-number}
-use Rattle.curve.proofs.Accepted.{accepted-ready, call-accepted, elevation-accepted}
+use Rattle.curve.proofs.Accepted.{accepted-ready, subdivision-accepted, elevation-accepted}
 use Rattle.curve.proofs.Answers.{subdivided-accepted, subdivided-refused, elevated-accepted, elevated-refused}
 use Rattle.curve.proofs.Points.{point-at}
 use Rattle.curve.proofs.Pieces.{left-accepted, right-accepted, elevatedOf-accepted}
@@ -26,7 +26,7 @@ pub record Ranged (c : Curve) : Type 0 where
   pub few : c .degree ≤ maxDegree
   pub held : (k : ℕ) → k ≤ c .degree → Held (point c k)
 
-accepted-ranged : (c : Curve) → Accepted c → Ranged c
+pub accepted-ranged : (c : Curve) → Accepted c → Ranged c
 accepted-ranged c ok = let r = accepted-ready c ok in record { few = r .few; held = r .held }
 
 -- ---- zero
@@ -41,13 +41,13 @@ zero-held = record { at = λ x. record { at = λ r. go x r } }
     go reactance up = record { from = leZ-yes tt; to = leZ-yes tt }
 
 pub zero-first : point zeroCurve 0 ≡ zeroRect
-zero-first = point-at 0 (λ k. zeroRect) 0 (omega arith) (omega arith)
+zero-first = point-at 0 0 (λ k. zeroRect) 0 (omega arith) (omega arith)
 
 zero-ranged : Ranged zeroCurve
 zero-ranged =
     record {
       few = omega arith;
-      held = λ k h. subst Held (sym (point-at 0 (λ k. zeroRect) k (omega arith) h)) zero-held;
+      held = λ k h. subst Held (sym (point-at 0 0 (λ k. zeroRect) k (omega arith) h)) zero-held;
     }
 
 -- ---- the answers
@@ -56,15 +56,15 @@ abbrev Both : Subdivision → Type 0
 Both s = Ranged (s .left) × Ranged (s .right)
 
 pub pieces-ranged : (c : Curve) (num den : ℕ) → Ranged (subdivided c num den .left) × Ranged (subdivided c num den .right)
-pieces-ranged c num den = by-number (callRefusal c num den .number) accepted refused
+pieces-ranged c num den = by-number (subdivisionRefusal c num den .number) accepted refused
   where
-    accepted : callRefusal c num den .number ≡ 0 → Both (subdivided c num den)
+    accepted : subdivisionRefusal c num den .number ≡ 0 → Both (subdivided c num den)
     accepted h =
-        let (ok, at) = call-accepted c num den h in
-        subst Both (sym (subdivided-accepted c num den ok at))
+        let (ok, at, room) = subdivision-accepted c num den h in
+        subst Both (sym (subdivided-accepted c num den ok at room))
         (accepted-ranged (leftOf c num den) (left-accepted c ok num den at), accepted-ranged (rightOf c num den) (right-accepted c ok num den at))
 
-    refused : eqb (callRefusal c num den .number) 0 ≡ false → Both (subdivided c num den)
+    refused : eqb (subdivisionRefusal c num den .number) 0 ≡ false → Both (subdivided c num den)
     refused e = subst Both (sym (subdivided-refused c num den e)) (zero-ranged, zero-ranged)
 
 pub elevated-ranged : (c : Curve) → Ranged (elevated c .curve)
@@ -72,8 +72,8 @@ elevated-ranged c = by-number (elevationRefusal c .number) accepted refused
   where
     accepted : elevationRefusal c .number ≡ 0 → Ranged (elevated c .curve)
     accepted h =
-        let (ok, below) = elevation-accepted c h in
-        subst (λ (e : Elevation). Ranged (e .curve)) (sym (elevated-accepted c ok below)) (accepted-ranged (elevatedOf c) (elevatedOf-accepted c ok below))
+        let (ok, below, room) = elevation-accepted c h in
+        subst (λ (e : Elevation). Ranged (e .curve)) (sym (elevated-accepted c ok below room)) (accepted-ranged (elevatedOf c) (elevatedOf-accepted c ok below))
 
     refused : eqb (elevationRefusal c .number) 0 ≡ false → Ranged (elevated c .curve)
     refused e = subst (λ (x : Elevation). Ranged (x .curve)) (sym (elevated-refused c e)) zero-ranged

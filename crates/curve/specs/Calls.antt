@@ -10,9 +10,9 @@ use Rattle.curve.specs.declared.Subdivision.{Subdivision}
 use Rattle.curve.specs.declared.Elevation.{Elevation}
 use Rattle.curve.specs.declared.Enclosure.{Enclosure}
 use Rattle.curve.specs.Rect.{zeroRect}
-use Rattle.curve.specs.Curve.{zeroCurve, loadOf, leftOf, rightOf, tableExact, elevatedOf, elevationExact, boundsOf}
+use Rattle.curve.specs.Curve.{zeroCurve, pieceSum, loadOf, leftOf, rightOf, tableExact, elevatedSum, elevatedOf, elevationExact, boundsOf}
 use Rattle.curve.specs.Ohms.{ohmsOf, zeroOhms}
-use Rattle.curve.specs.Refusals.{_orElse_, curveRefusal, parameterRefusal, highestRefusal}
+use Rattle.curve.specs.Refusals.{_orElse_, curveRefusal, parameterRefusal, highestRefusal, sumRefusal}
 
 -- refusals 1 to 5
 unfoldable pub callRefusal : Curve → ℕ → ℕ → Refusal
@@ -26,17 +26,20 @@ evaluated c num den =
     (record { refusal = r; load = loadOf c num den; ohms = ohmsOf (loadOf c num den); exact = tableExact c num den })
     (record { refusal = r; load = zeroRect; ohms = zeroOhms; exact = false })
 
--- subdivision (its cut)
+-- subdivision (its cut): refusals 1 to 5, and 17
+unfoldable pub subdivisionRefusal : Curve → ℕ → ℕ → Refusal
+subdivisionRefusal c num den = callRefusal c num den orElse sumRefusal (pieceSum c)
+
 unfoldable pub subdivided : Curve → ℕ → ℕ → Subdivision
 subdivided c num den =
-    let r = callRefusal c num den in
+    let r = subdivisionRefusal c num den in
     cond (eqb (r .number) 0)
     (record { refusal = r; left = leftOf c num den; right = rightOf c num den; exact = tableExact c num den })
     (record { refusal = r; left = zeroCurve; right = zeroCurve; exact = false })
 
--- degree elevation (its raising): refusals 1 to 3, and 6
+-- degree elevation (its raising): refusals 1 to 3, 6, and 17
 unfoldable pub elevationRefusal : Curve → Refusal
-elevationRefusal c = curveRefusal c orElse highestRefusal (c .degree)
+elevationRefusal c = curveRefusal c orElse highestRefusal (c .degree) orElse sumRefusal (elevatedSum c)
 
 unfoldable pub elevated : Curve → Elevation
 elevated c =

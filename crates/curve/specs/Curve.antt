@@ -26,17 +26,22 @@ tabulate (suc m) f = f 0 ∷ tabulate m (λ k. f (suc k))
 unfoldable pub pointsOf : ℕ → (ℕ → Rect) → List Rect
 pointsOf n f = tabulate places (λ k. cond (leb k n) (f k) zeroRect)
 
--- the curve of degree n with the control points f 0 to f n
-abbrev pub curveOf : ℕ → (ℕ → Rect) → Curve
-curveOf n f = record { degree = n; points = pointsOf n f }
+-- the curve of degree n with the sum of steps s and the control points f 0 to f n
+abbrev pub curveOf : ℕ → ℕ → (ℕ → Rect) → Curve
+curveOf n s f = record { degree = n; sum = s; points = pointsOf n f }
 
 abbrev pub zeroCurve : Curve
-zeroCurve = curveOf 0 (λ k. zeroRect)
+zeroCurve = curveOf 0 0 (λ k. zeroRect)
 
--- two curves are equal if their degrees and their control points 0 to n are
-pub record SameCurve (c e : Curve) : Type 0 where
+-- two curves are equal but for their sums if their degrees and their control points 0 to n are equal
+pub record SameButSum (c e : Curve) : Type 0 where
   pub degrees : c .degree ≡ e .degree
   pub controls : (k : ℕ) → k ≤ c .degree → point c k ≡ point e k
+
+-- and equal if their sums are, too
+pub record SameCurve (c e : Curve) : Type 0 where
+  pub sums : c .sum ≡ e .sum
+  pub rest : SameButSum c e
 
 -- the map of neighbours at the parameter num/den
 abbrev pub mapAt : ℕ → ℕ → Rect → Rect → Rect
@@ -46,15 +51,19 @@ mapAt num den = affineRect (den - num) num den
 abbrev pub exactAt : ℕ → ℕ → Rect → Rect → Bool
 exactAt num den = exactRect (den - num) num den
 
+-- the sum of steps of both pieces: the parent's plus its degree
+abbrev pub pieceSum : Curve → ℕ
+pieceSum c = c .sum + c .degree
+
 -- the load at num/den, and the control points of the two pieces there, off one table (000, equations 18 and 19)
 unfoldable pub loadOf : Curve → ℕ → ℕ → Rect
 loadOf c num den = DeCasteljau.value (mapAt num den) (point c) (c .degree)
 
 unfoldable pub leftOf : Curve → ℕ → ℕ → Curve
-leftOf c num den = curveOf (c .degree) (DeCasteljau.left (mapAt num den) (point c))
+leftOf c num den = curveOf (c .degree) (pieceSum c) (DeCasteljau.left (mapAt num den) (point c))
 
 unfoldable pub rightOf : Curve → ℕ → ℕ → Curve
-rightOf c num den = curveOf (c .degree) (DeCasteljau.right (mapAt num den) (point c) (c .degree))
+rightOf c num den = curveOf (c .degree) (pieceSum c) (DeCasteljau.right (mapAt num den) (point c) (c .degree))
 
 -- the exact flag of the load and of both pieces (document 02: the lamp). Lit, true: no map of the table left a remainder.
 -- Dark, false: some map was rounded; that is not to say which side, or that it is wrong.
@@ -65,8 +74,12 @@ tableExact c num den = DeCasteljau.everyMap (mapAt num den) (point c) (exactAt n
 unfoldable pub elevatedPoint : ℕ → (ℕ → Rect) → ℕ → Rect
 elevatedPoint n P k = affineRect k (n + 1 - k) (n + 1) (P (k - 1)) (P k)
 
+-- the sum of steps of the elevated curve: one more
+abbrev pub elevatedSum : Curve → ℕ
+elevatedSum c = c .sum + 1
+
 unfoldable pub elevatedOf : Curve → Curve
-elevatedOf c = curveOf (c .degree + 1) (elevatedPoint (c .degree) (point c))
+elevatedOf c = curveOf (c .degree + 1) (elevatedSum c) (elevatedPoint (c .degree) (point c))
 
 -- whether its map leaves no remainder
 unfoldable pub elevatedExact : ℕ → (ℕ → Rect) → ℕ → Bool

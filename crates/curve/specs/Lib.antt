@@ -4,5 +4,4 @@ pub mod Curve
 pub mod Refusals
 pub mod Ohms
 pub mod Calls
-pub mod Promises
 pub mod Inner

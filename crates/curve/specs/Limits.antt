@@ -18,6 +18,10 @@ maxSide = 16777216
 abbrev pub maxDen : ℕ
 maxDen = 65536
 
+-- the largest sum of steps of a curve
+abbrev pub maxSum : ℕ
+maxSum = 65535
+
 -- the steps in an ohm
 abbrev pub stepsPerOhm : ℕ
 stepsPerOhm = 1024

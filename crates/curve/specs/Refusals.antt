@@ -1,4 +1,4 @@
--- The refusals 1 to 6 in their order. Number 0 says that nothing was refused.
+-- The refusals 1 to 6 and 17 in their order. Number 0 says that nothing was refused.
 -- Assumes nothing.
 use mathlib.Core.Path.{_≡_}
 use mathlib.Core.Bool.{Bool, _&&_, cond}
@@ -6,7 +6,7 @@ use Prim.Native.Nat.{ℕ, zero, suc, _+_}
 use lib.Dec.{leb, ltb, eqb}
 use Rattle.curve.specs.declared.Refusal.{Refusal}
 use Rattle.curve.specs.declared.Curve.{Curve}
-use Rattle.curve.specs.Limits.{maxDegree, maxDen}
+use Rattle.curve.specs.Limits.{maxDegree, maxDen, maxSum}
 use Rattle.curve.specs.Rect.{sidesInRange, sidesOrdered}
 use Rattle.curve.specs.Curve.{point}
 
@@ -55,9 +55,16 @@ parameterRefusal num den = unless (leb 1 den && leb den maxDen) 4 orElse unless 
 unfoldable pub highestRefusal : ℕ → Refusal
 highestRefusal degree = unless (ltb degree maxDegree) 6
 
--- a curve and a parameter that are not refused
+-- 17: a sum of steps that would pass the largest
+unfoldable pub sumRefusal : ℕ → Refusal
+sumRefusal sum = unless (leb sum maxSum) 17
+
+-- a curve, a parameter and a sum that are not refused
 abbrev pub Accepted : Curve → Type 0
 Accepted c = curveRefusal c ≡ none
 
 abbrev pub AcceptedAt : ℕ → ℕ → Type 0
 AcceptedAt num den = parameterRefusal num den ≡ none
+
+abbrev pub AcceptedSum : ℕ → Type 0
+AcceptedSum sum = sumRefusal sum ≡ none

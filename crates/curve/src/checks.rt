@@ -14,7 +14,7 @@ ghost use Rattle.curve.specs.Refusals.{
   curveRefusal,
   parameterRefusal,
 };
-ghost use Rattle.curve.specs.Calls.{callRefusal, elevationRefusal};
+ghost use Rattle.curve.specs.Calls.{callRefusal, subdivisionRefusal, elevationRefusal};
 use crate::Curve;
 use crate::Interval;
 use crate::MAX_DEGREE;
@@ -23,6 +23,9 @@ use crate::MAX_SIDE;
 use crate::MIN_SIDE;
 use crate::Rect;
 use crate::Refusal;
+use crate::sums::elevated_sum;
+use crate::sums::piece_sum;
+use crate::sums::sum_refusal;
 
 // This refusal unless the test held.
 pub fn refused_unless(ok: bool, number: u32, place: usize) -> Refusal
@@ -163,12 +166,20 @@ pub fn call_refusal(c: Curve, num: u32, den: u32) -> Refusal
     first_of(curve_refusal(c), parameter_refusal(num, den))
 }
 
-// Refusals 1 to 3, and 6 at the highest degree.
+// Refusals 1 to 5, then 17.
+pub fn subdivision_refusal(c: Curve, num: u32, den: u32) -> Refusal
+    ensures { λ r. ⌜ r ≡ subdivisionRefusal c num den ⌝ }
+{
+    let first = call_refusal(c, num, den);
+    let last = sum_refusal(piece_sum(c));
+    first_of(first, last)
+}
+
+// Refusals 1 to 3, 6 at the highest degree, then 17.
 pub fn elevation_refusal(c: Curve) -> Refusal
     ensures { λ r. ⌜ r ≡ elevationRefusal c ⌝ }
 {
-    first_of(
-        curve_refusal(c),
-        refused_unless(c.degree < MAX_DEGREE, 6, 0),
-    )
+    let highest = refused_unless(c.degree < MAX_DEGREE, 6, 0);
+    let own = first_of(highest, sum_refusal(elevated_sum(c)));
+    first_of(curve_refusal(c), own)
 }

@@ -8,16 +8,21 @@ mod checks;
 mod display;
 mod elevating;
 mod hull;
+mod sums;
 mod table;
 mod zeros;
 
 use checks::call_refusal;
 use checks::elevation_refusal;
+use checks::subdivision_refusal;
 use display::ohms_of;
 use elevating::elevated_points;
 use hull::hull_of;
+use sums::elevated_sum;
+use sums::piece_sum;
 use table::SIDES;
 use table::accepts;
+use table::accepts_subdivision;
 use table::points_of;
 use table::rect_at;
 use table::table_of;
@@ -34,6 +39,9 @@ pub use checks::refused_unless;
 // The check of an interval by itself: both ends are in range. And of a rectangle by itself: its sides are in range and in order.
 pub use checks::ends_in_range;
 pub use checks::is_good;
+
+// Refusal 17, of a sum of steps that a call would reach.
+pub use sums::sum_refusal;
 
 // A rectangle in ohms.
 pub use display::checked_ohms;
@@ -55,6 +63,9 @@ pub const MAX_SIDE: i32 = 16777216;
 
 // The largest denominator of a parameter.
 pub const MAX_DEN: u32 = 65536;
+
+// The largest sum of steps of a curve.
+pub const MAX_SUM: u64 = 65535;
 
 // The exact flag of a refused call.
 const DARK: bool = false;
@@ -79,9 +90,11 @@ pub struct Rect {
     pub reactance: Interval,
 }
 
-// A curve of a degree n, whose control points are the rectangles 0 to n. Places past n are not read.
+// A curve of a degree n, whose control points are the rectangles 0 to n. Places past n are not read. The sum of steps tells how far a side may lie beyond that of the same
+// cuts and raisings without rounding, counted from the card that the curve was read from.
 pub struct Curve {
     pub degree: u32,
+    pub sum: u16,
     pub points: [Rect; PLACES],
 }
 
@@ -128,32 +141,35 @@ pub struct Enclosure {
     pub rect: Rect,
 }
 
-// The two pieces of the curve at num/den, off de Casteljau's table, every stage rounded outward; refusals 1 to 5.
+// The two pieces of the curve at num/den, off de Casteljau's table, every stage rounded outward; refusals 1 to 5 and 17.
 pub fn subdivide(c: Curve, num: u32, den: u32) -> Subdivision
     ensures { λ r. ⌜ r ≡ subdivided c num den ⌝ }
 {
     let mut left = [0; SIDES];
     let mut right = [0; SIDES];
-    if !accepts(&mut right, c, num, den) {
+    if !accepts_subdivision(&mut right, c, num, den) {
         let none = zero_curve();
         return Subdivision {
-            refusal: call_refusal(c, num, den),
+            refusal: subdivision_refusal(c, num, den),
             left: none,
             right: none,
             exact: DARK,
         };
     }
     let degree = c.degree;
+    let sum = piece_sum(c) as u16;
     let n = degree as usize;
     let exact = table_of(&mut left, &mut right, n, num, den);
     Subdivision {
         refusal: NOT_REFUSED,
         left: Curve {
             degree,
+            sum,
             points: points_of(&left),
         },
         right: Curve {
             degree,
+            sum,
             points: points_of(&right),
         },
         exact,
@@ -186,7 +202,7 @@ pub fn evaluate(c: Curve, num: u32, den: u32) -> Evaluation
     }
 }
 
-// The same curve with its degree raised by one, each control point rounded outward once; refusals 1 to 3 and 6.
+// The same curve with its degree raised by one, each control point rounded outward once; refusals 1 to 3, 6 and 17.
 pub fn elevate(c: Curve) -> Elevation
     ensures { λ r. ⌜ r ≡ elevated c ⌝ }
 {
@@ -201,9 +217,14 @@ pub fn elevate(c: Curve) -> Elevation
     let raised = elevated_points(c);
     let points = raised.points;
     let degree = c.degree + 1;
+    let sum = elevated_sum(c) as u16;
     Elevation {
         refusal,
-        curve: Curve { degree, points },
+        curve: Curve {
+            degree,
+            sum,
+            points,
+        },
         exact: raised.exact,
     }
 }

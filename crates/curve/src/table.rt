@@ -6,9 +6,9 @@ ghost use Prim.Native.Nat.{ℕ, _+_, _-_, _≤_, _<_};
 ghost use lib.Dec.{eqb};
 ghost use lib.ListN.{length};
 ghost use Rattle.curve.specs.Limits.{maxDegree, places};
-ghost use Rattle.curve.specs.Curve.{pointsOf};
-ghost use Rattle.curve.specs.Refusals.{curveRefusal, Accepted, AcceptedAt};
-ghost use Rattle.curve.specs.Calls.{callRefusal};
+ghost use Rattle.curve.specs.Curve.{pointsOf, pieceSum};
+ghost use Rattle.curve.specs.Refusals.{curveRefusal, Accepted, AcceptedAt, AcceptedSum};
+ghost use Rattle.curve.specs.Calls.{callRefusal, subdivisionRefusal};
 ghost use Rattle.curve.specs.Inner.{Held, Factors, Weighed, Clear, Stored, Taken, Begun, Staged, Tabled, allSides, placed};
 use crate::Curve;
 use crate::Interval;
@@ -21,6 +21,8 @@ use crate::affine::weights_at;
 use crate::checks::is_from_one_to;
 use crate::checks::is_good;
 use crate::checks::parameter_refusal;
+use crate::sums::piece_sum;
+use crate::sums::sum_refusal;
 use crate::zeros::zero_rect;
 
 // The sides of a rectangle, and of all places of a curve's record.
@@ -106,6 +108,14 @@ pub fn accepts(sides: &mut [i32; SIDES], c: Curve, num: u32, den: u32) -> bool
     ensures { λ r. ⌜ (r ≡ true → Accepted c × AcceptedAt num den × Taken c (now (sides .exit))) × (r ≡ false → eqb (callRefusal c num den .number) 0 ≡ false) ⌝ }
 {
     take_sides(sides, c) && parameter_refusal(num, den).number == 0
+}
+
+// The same for a subdivision, whose pieces must have room for their sum of steps.
+pub fn accepts_subdivision(sides: &mut [i32; SIDES], c: Curve, num: u32, den: u32) -> bool
+    requires { ⌜ Clear (now sides) ⌝ }
+    ensures { λ r. ⌜ (r ≡ true → Accepted c × AcceptedAt num den × AcceptedSum (pieceSum c) × Taken c (now (sides .exit))) × (r ≡ false → eqb (subdivisionRefusal c num den .number) 0 ≡ false) ⌝ }
+{
+    accepts(sides, c, num, den) && sum_refusal(piece_sum(c)).number == 0
 }
 
 // One stage in place: each of the first m rectangles becomes the map of itself and the next. It answers whether no map left a remainder.

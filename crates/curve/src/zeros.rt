@@ -21,6 +21,7 @@ pub fn zero_curve() -> Curve
 {
     Curve {
         degree: 0,
+        sum: 0,
         points: [zero_rect(); PLACES],
     }
 }

@@ -24,7 +24,7 @@ use Rattle.settings.specs.Choice.{fitting, noneFitting}
 use Rattle.settings.specs.Settings.{chosen}
 use Rattle.bridge.specs.declared.Measurement.the-variants.{NoCarrier, Load, LoadWithSpread}
 use Rattle.bridge.specs.Bridge.{noCarrier, rectangle, enclosed}
-use Rattle.examples.specs.Shown.{values, line, ends, refusalShown, flagShown, evaluationShown, resistancesShown, verdictShown, choiceShown, foundShown, upperOf, timesLower, spaces}
+use Rattle.examples.specs.Shown.{values, summedValues, line, ends, refusalShown, flagShown, evaluationShown, sumsShown, elevatedSumShown, resistancesShown, verdictShown, choiceShown, foundShown, upperOf, timesLower, spaces}
 
 -- an example: the numbers that a definition answers, and those that a document gives
 pub record Example : Type 0 where
@@ -93,6 +93,10 @@ wider = setting (pos 0) (pos 6) 7
 
 abbrev pub emptyBox : Setting
 emptyBox = setting (pos 2) (pos 2) 8
+
+-- the straight line from 0 to 4 with a sum of steps
+abbrev pub summedLine : ℕ → Curve
+summedLine sum = summedValues 1 sum (pos 0 ∷ pos 4 ∷ [])
 
 -- single-precision ohms by their bits
 abbrev pub single : ℕ → Float
@@ -235,6 +239,29 @@ examples =
     ∷ (choiceShown (chosen (values 9 []) (emptyBox ∷ []) 2 5) gives pos 1 ∷ pos 0 ∷ pos 0 ∷ pos 0 ∷ pos 0 ∷ [])
     ∷ (choiceShown (chosen zeroToFour (fitted ∷ []) 13 0) gives pos 8 ∷ pos 0 ∷ pos 0 ∷ pos 0 ∷ pos 0 ∷ [])
     ∷ (choiceShown (chosen zeroToFour (fitted ∷ []) 12 0) gives pos 9 ∷ pos 0 ∷ pos 0 ∷ pos 0 ∷ pos 0 ∷ [])
+    -- the sum of steps: 0 from a card; a cut adds the degree in both pieces, a raising 1
+    ∷ (pos (readCard cardBytes .curve .sum) ∷ [] gives pos 0 ∷ [])
+    ∷ (sumsShown (subdivided (summedLine 5) 1 2) gives pos 0 ∷ pos 0 ∷ pos 6 ∷ pos 6 ∷ [])
+    ∷ (elevatedSumShown (elevated (summedLine 5)) gives pos 0 ∷ pos 0 ∷ pos 6 ∷ [])
+    -- a degree-8 curve with sum 65,527 cut gives 65,535; with 65,528 a 17, after 4 and 5
+    ∷ (sumsShown (subdivided (summedValues 8 65527 []) 1 2) gives pos 0 ∷ pos 0 ∷ pos 65535 ∷ pos 65535 ∷ [])
+    ∷ (sumsShown (subdivided (summedValues 8 65528 []) 1 2) gives pos 17 ∷ pos 0 ∷ pos 0 ∷ pos 0 ∷ [])
+    ∷ (sumsShown (subdivided (summedValues 8 65528 []) 1 0) gives pos 4 ∷ pos 0 ∷ pos 0 ∷ pos 0 ∷ [])
+    ∷ (sumsShown (subdivided (summedValues 8 65528 []) 8 7) gives pos 5 ∷ pos 0 ∷ pos 0 ∷ pos 0 ∷ [])
+    -- a raising at 65,535 is a 17, after 6, and at 65,534 gives 65,535
+    ∷ (elevatedSumShown (elevated (summedLine 65534)) gives pos 0 ∷ pos 0 ∷ pos 65535 ∷ [])
+    ∷ (elevatedSumShown (elevated (summedLine 65535)) gives pos 17 ∷ pos 0 ∷ pos 0 ∷ [])
+    ∷ (elevatedSumShown (elevated (summedValues 8 65535 [])) gives pos 6 ∷ pos 0 ∷ pos 0 ∷ [])
+    -- a walk at sum 65,535, depth 0 is accepted, at depth 1 a 17, after 9; and so is a list of settings
+    ∷ (verdictShown (searched (summedLine 65535) smallBox 0 5 .verdict) gives pos undecided ∷ pos 0 ∷ pos 0 ∷ pos 1 ∷ [])
+    ∷ (refusalShown (searched (summedLine 65535) smallBox 1 5 .refusal) gives pos 17 ∷ pos 0 ∷ [])
+    ∷ (refusalShown (searched (summedLine 65535) smallBox 1 0 .refusal) gives pos 9 ∷ pos 0 ∷ [])
+    ∷ (choiceShown (chosen (summedLine 65535) (fitted ∷ []) 0 5) gives pos 0 ∷ pos 0 ∷ pos fitting ∷ pos 0 ∷ pos 7 ∷ [])
+    ∷ (choiceShown (chosen (summedLine 65535) (fitted ∷ []) 1 5) gives pos 17 ∷ pos 0 ∷ pos 0 ∷ pos 0 ∷ pos 0 ∷ [])
+    -- both readings and bounds are not refused by it
+    ∷ (evaluationShown (evaluated (summedLine 65535) 1 2) gives pos 0 ∷ pos 0 ∷ pos 2 ∷ pos 2 ∷ pos 0 ∷ pos 0 ∷ [])
+    ∷ (evaluationShown (evaluatedSixteenths (summedLine 65535) 8) gives pos 0 ∷ pos 0 ∷ pos 2 ∷ pos 2 ∷ pos 0 ∷ pos 0 ∷ [])
+    ∷ (refusalShown (bounded (summedLine 65535) .refusal) gives pos 0 ∷ pos 0 ∷ [])
     ∷ []
 
 -- every example of the list is answered as the documents say

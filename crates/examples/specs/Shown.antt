@@ -12,6 +12,8 @@ use Rattle.curve.specs.declared.Rect.{Rect}
 use Rattle.curve.specs.declared.Curve.{Curve}
 use Rattle.curve.specs.declared.Refusal.{Refusal}
 use Rattle.curve.specs.declared.Evaluation.{Evaluation}
+use Rattle.curve.specs.declared.Subdivision.{Subdivision}
+use Rattle.curve.specs.declared.Elevation.{Elevation}
 use Rattle.curve.specs.Rect.{zeroInterval}
 use Rattle.search.specs.declared.Verdict.{Verdict}
 use Rattle.search.specs.Verdict as verdict
@@ -25,13 +27,16 @@ use Rattle.curve.specs.Curve.{point, curveOf}
 abbrev pub valueAt : List ℤ → ℕ → Rect
 valueAt vs k = record { resistance = record { low = getD vs k (pos 0); high = getD vs k (pos 0) }; reactance = zeroInterval }
 
--- the curve of the given degree with these values
+-- the curve of the given degree with these values, and the same with a sum of steps
+abbrev pub summedValues : ℕ → ℕ → List ℤ → Curve
+summedValues n sum vs = curveOf n sum (valueAt vs)
+
 abbrev pub values : ℕ → List ℤ → Curve
-values n vs = curveOf n (valueAt vs)
+values n vs = summedValues n 0 vs
 
 -- the straight line between two loads, each a resistance and a reactance with low equal to high
 abbrev pub line : ℤ → ℤ → ℤ → ℤ → Curve
-line r x r′ x′ = curveOf 1 (λ k. cond (eqb k 0) (load r x) (load r′ x′))
+line r x r′ x′ = curveOf 1 0 (λ k. cond (eqb k 0) (load r x) (load r′ x′))
   where
     load : ℤ → ℤ → Rect
     load r x = record { resistance = record { low = r; high = r }; reactance = record { low = x; high = x } }
@@ -52,6 +57,13 @@ flagShown exact = cond exact (pos 1) (pos 0) ∷ []
 -- the refusal, then the load's four sides
 abbrev pub evaluationShown : Evaluation → List ℤ
 evaluationShown e = refusalShown (e .refusal) ++ sidesShown (e .load)
+
+-- the refusal, then the sums of both pieces; and of an elevated curve
+abbrev pub sumsShown : Subdivision → List ℤ
+sumsShown s = refusalShown (s .refusal) ++ (pos (s .left .sum) ∷ pos (s .right .sum) ∷ [])
+
+abbrev pub elevatedSumShown : Elevation → List ℤ
+elevatedSumShown e = refusalShown (e .refusal) ++ (pos (e .curve .sum) ∷ [])
 
 -- the resistances of m control points from k on
 unfoldable pub resistancesFrom : Curve → ℕ → ℕ → List ℤ

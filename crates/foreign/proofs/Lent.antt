@@ -38,9 +38,9 @@ module _ {A : Type 0} where
       sets-eq ys (front xs out) m (omega arith)
       ∙ ap₂ (λ (a b : List A). a ++ ys ++ b) (take-at xs rest m long) past
 
-  -- the first number of a list, in front of the same
-  pub front-same : (out : List A) (d : A) → 0 < length out → out ≡ front (getD out 0 d ∷ []) out
-  front-same out d some = drop-cons out 0 d some
+  -- the first two numbers of a list, in front of the same
+  pub front-same : (out : List A) (d : A) → 1 < length out → out ≡ front (getD out 0 d ∷ getD out 1 d ∷ []) out
+  front-same out d some = drop-cons out 0 d (omega arith) ∙ ap (λ (l : List A). getD out 0 d ∷ l) (drop-cons out 1 d some)
 
 module _ {A : Type 0} (r : Refusal) (value lent : A) where
   abbrev leftIf : Bool → A

@@ -12,11 +12,11 @@ use Rattle.columns.specs.Line.{newline}
 use Rattle.curve.specs.declared.Rect.{Rect}
 use Rattle.curve.specs.declared.Curve.{Curve}
 use Rattle.curve.specs.declared.Refusal.{Refusal}
-use Rattle.curve.specs.Limits.{maxDegree, maxDen}
+use Rattle.curve.specs.Limits.{maxDegree, maxDen, maxSum}
 use Rattle.curve.specs.Rect.{endsInRange, sidesInRange, sidesOrdered}
-use Rattle.curve.specs.Curve.{point}
-use Rattle.curve.specs.Refusals.{refusal, none, _orElse_, unlessAt, firstFailing, rangeRefusal, orderRefusal, curveRefusal, parameterRefusal, highestRefusal}
-use Rattle.curve.specs.Calls.{callRefusal, elevationRefusal}
+use Rattle.curve.specs.Curve.{point, pieceSum, elevatedSum}
+use Rattle.curve.specs.Refusals.{refusal, none, _orElse_, unlessAt, firstFailing, rangeRefusal, orderRefusal, curveRefusal, parameterRefusal, highestRefusal, sumRefusal}
+use Rattle.curve.specs.Calls.{callRefusal, subdivisionRefusal, elevationRefusal}
 use Rattle.curve.proofs.Answers.{in-both, evaluated-refusal, subdivided-refusal, elevated-refusal, bounded-refusal}
 use Rattle.sixteenths.specs.Weights.{sixteenths}
 use Rattle.sixteenths.specs.Sixteenths.{numeratorRefusal, sixteenthsRefusal}
@@ -26,12 +26,10 @@ use Rattle.card_text.specs.Card.{headerLength, cardLength, rowAt}
 use Rattle.card_text.specs.Reading.{wellFormed, decoded, columnRefusal, lineEndRefusal, endsRefusal, rowRefusal, rowsRefusal, shortRefusal, lengthRefusal, headerRefusal, cardRefusal}
 use Rattle.card_text.specs.Writing.{writingRefusal, writeCard}
 use Rattle.card_text.proofs.Promises.{read-refusal}
-use Rattle.search.specs.declared.Verdict.the-variants.{Refused, Inside}
 use Rattle.search.specs.Limits.{maxDepth, maxBudget}
 use Rattle.search.specs.Box.{isBox}
-use Rattle.search.specs.Walk.{walked}
-use Rattle.search.specs.Search.{effortRefusal, boxRefusal, searchRefusal, searched}
-use Rattle.search.proofs.Accepted.{answer}
+use Rattle.search.specs.Search.{deepestSum, effortRefusal, boxRefusal, searchRefusal}
+use Rattle.search.proofs.Accepted.{searched-refusal}
 use Rattle.settings.specs.declared.Setting.{Setting}
 use Rattle.settings.specs.Limits.{maxSettings}
 use Rattle.settings.specs.Settings.{listRefusal, boxesRefusal, settingsRefusal}
@@ -49,10 +47,10 @@ use Rattle.foreign.specs.Promises.{Listed, ListedAnswers}
 listed-none : Listed none
 listed-none = record { known = omega arith; zero = λ e. refl }
 
-listed-some : (number place : ℕ) → number < 16 → Listed (refusal (suc number) place)
+listed-some : (number place : ℕ) → number < 17 → Listed (refusal (suc number) place)
 listed-some number place few = record { known = few; zero = λ e. absurd (omega arith) }
 
-unless : (ok : Bool) (number place : ℕ) → number < 16 → Listed (unlessAt ok (suc number) place)
+unless : (ok : Bool) (number place : ℕ) → number < 17 → Listed (unlessAt ok (suc number) place)
 unless true number place few = listed-none
 unless false number place few = listed-some number place few
 
@@ -64,7 +62,7 @@ infixr 4 _or_
 _or_ : {a b : Refusal} → Listed a → Listed b → Listed (a orElse b)
 _or_ {a} first second = either (eqb (a .number) 0) second first
 
-failing : (ok : ℕ → Bool) (number m from : ℕ) → number < 16 → Listed (firstFailing ok (suc number) m from)
+failing : (ok : ℕ → Bool) (number m from : ℕ) → number < 17 → Listed (firstFailing ok (suc number) m from)
 unfolding firstFailing
 failing ok number zero from few = listed-none
 failing ok number (suc m) from few = either (ok from) (failing ok number m (suc from) few) (listed-some number from few)
@@ -83,21 +81,30 @@ unfolding callRefusal parameterRefusal
 call-listed c num den =
     curve-listed c or unless (leb 1 den && leb den maxDen) 3 0 (omega arith) or unless (leb num den) 4 0 (omega arith)
 
+sum-listed : (s : ℕ) → Listed (sumRefusal s)
+unfolding sumRefusal
+sum-listed s = unless (leb s maxSum) 16 0 (omega arith)
+
+subdivision-listed : (c : Curve) (num den : ℕ) → Listed (subdivisionRefusal c num den)
+unfolding subdivisionRefusal
+subdivision-listed c num den = call-listed c num den or sum-listed (pieceSum c)
+
 summed-listed : (c : Curve) (j : ℕ) → Listed (sixteenthsRefusal c j)
 unfolding sixteenthsRefusal numeratorRefusal
 summed-listed c j = curve-listed c or unless (leb j sixteenths) 14 0 (omega arith)
 
 elevation-listed : (c : Curve) → Listed (elevationRefusal c)
 unfolding elevationRefusal highestRefusal
-elevation-listed c = curve-listed c or unless (ltb (c .degree) maxDegree) 5 0 (omega arith)
+elevation-listed c = curve-listed c or unless (ltb (c .degree) maxDegree) 5 0 (omega arith) or sum-listed (elevatedSum c)
 
-effort-listed : (depth budget : ℕ) → Listed (effortRefusal depth budget)
+effort-listed : (c : Curve) (depth budget : ℕ) → Listed (effortRefusal c depth budget)
 unfolding effortRefusal
-effort-listed depth budget = unless (leb depth maxDepth) 7 0 (omega arith) or unless (leb 1 budget && leb budget maxBudget) 8 0 (omega arith)
+effort-listed c depth budget =
+    unless (leb depth maxDepth) 7 0 (omega arith) or unless (leb 1 budget && leb budget maxBudget) 8 0 (omega arith) or sum-listed (deepestSum c depth)
 
 search-listed : (c : Curve) (box : Rect) (depth budget : ℕ) → Listed (searchRefusal c box depth budget)
 unfolding searchRefusal boxRefusal
-search-listed c box depth budget = curve-listed c or unless (isBox box) 6 0 (omega arith) or effort-listed depth budget
+search-listed c box depth budget = curve-listed c or unless (isBox box) 6 0 (omega arith) or effort-listed c depth budget
 
 boxes-listed : (index : ℕ) (settings : List Setting) → Listed (boxesRefusal index settings)
 unfolding boxesRefusal
@@ -110,7 +117,7 @@ settings-listed c settings depth budget =
     unless (leb 1 (length settings) && leb (length settings) maxSettings) 15 (length settings) (omega arith)
     or curve-listed c
     or boxes-listed 0 settings
-    or effort-listed depth budget
+    or effort-listed c depth budget
 
 bridge-listed : (m : Measurement) → Listed (enclosed m .refusal)
 unfolding enclosed loadRefusal spreadRefusal numberRefusal sideRefusal
@@ -164,11 +171,6 @@ writing-listed c size = curve-listed c or unless (leb (cardLength (c .degree)) s
 
 -- ---- the answers
 
-searched-refusal : (c : Curve) (box : Rect) (depth budget : ℕ) → searched c box depth budget .refusal ≡ searchRefusal c box depth budget
-unfolding searched
-searched-refusal c box depth budget =
-    in-both (answer (walked box budget depth c 0 0 (Inside 0))) (answer Refused) (searchRefusal c box depth budget) (λ x. x .refusal) _ refl refl
-
 written-refusal : (c : Curve) (out : List ℕ) → writeCard c out .refusal ≡ writingRefusal c (length out)
 unfolding writeCard
 written-refusal c out = in-both (written (cardLength (c .degree))) (written 0) (writingRefusal c (length out)) (λ x. x .refusal) _ refl refl
@@ -181,7 +183,7 @@ listed-answers =
     record {
       evaluating = λ c num den. rw (evaluated-refusal c num den) (call-listed c num den);
       summing = λ c j. rw (summed-refusal c j) (summed-listed c j);
-      subdividing = λ c num den. rw (subdivided-refusal c num den) (call-listed c num den);
+      subdividing = λ c num den. rw (subdivided-refusal c num den) (subdivision-listed c num den);
       elevating = λ c. rw (elevated-refusal c) (elevation-listed c);
       bounding = λ c. rw (bounded-refusal c) (curve-listed c);
       searching = λ c box depth budget. rw (searched-refusal c box depth budget) (search-listed c box depth budget);

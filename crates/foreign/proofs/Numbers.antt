@@ -37,12 +37,12 @@ module _ (P : ℕ → Rect) where
   unfolding sidesTo
   sides-next m = rw (add-one m)
 
-pub curve-length : (c : Curve) → length (curveNumbers c) ≡ 1 + 4 * (c .degree + 1)
+pub curve-length : (c : Curve) → length (curveNumbers c) ≡ 2 + 4 * (c .degree + 1)
 unfolding curveNumbers
-curve-length c = ap suc (sides-length (point c) (c .degree + 1)) ∙ omega arith
+curve-length c = ap (λ (n : ℕ). suc (suc n)) (sides-length (point c) (c .degree + 1)) ∙ omega arith
 
 -- the length that a degree gives
-pub length-by-degree : (c : Curve) {n : ℕ} → n ≡ 1 + 4 * (c .degree + 1) → n ≡ length (curveNumbers c)
+pub length-by-degree : (c : Curve) {n : ℕ} → n ≡ 2 + 4 * (c .degree + 1) → n ≡ length (curveNumbers c)
 length-by-degree c e = e ∙ sym (curve-length c)
 
 -- the curve that a card gives, the zero curve where it is refused, has a degree of at most the highest

@@ -35,9 +35,9 @@ rectAt zs at =
       reactance = record { low = sideAt zs (at + 2); high = sideAt zs (at + 3) };
     }
 
--- the curve of a degree with these sides, four a rectangle
-unfoldable pub curveFrom : ℕ → List ℤ → Curve
-curveFrom degree zs = curveOf degree (λ k. rectAt zs (4 * k))
+-- the curve of a degree with this sum of steps and these sides, four a rectangle
+unfoldable pub curveFrom : ℕ → ℕ → List ℤ → Curve
+curveFrom degree sum zs = curveOf degree sum (λ k. rectAt zs (4 * k))
 
 -- the bridge's number at an index; one that the list does not have is not a number, which is refused
 abbrev pub ohmsAt : List Float → ℕ → Float
@@ -56,9 +56,9 @@ unfoldable pub sidesTo : ℕ → (ℕ → Rect) → List ℤ
 sidesTo zero P = []
 sidesTo (suc m) P = sidesTo m P ++ sides (P m)
 
--- a curve: its degree, and the sides of its rectangles 0 to n
+-- a curve: its degree, its sum of steps, and the sides of its rectangles 0 to n
 unfoldable pub curveNumbers : Curve → List ℤ
-curveNumbers c = pos (c .degree) ∷ sidesTo (c .degree + 1) (point c)
+curveNumbers c = pos (c .degree) ∷ pos (c .sum) ∷ sidesTo (c .degree + 1) (point c)
 
 -- a load in ohms
 abbrev pub ohmNumbers : Ohms → List Float

@@ -26,13 +26,13 @@ Unpacked =
     (r : Refusal) → r .number < 2 ^ 32 →
     (answerOf r % 2 ^ 32 ≡ r .number) × (answerOf r / 2 ^ 32 ≡ placeOf (r .place)) × (r .place < 2 ^ 32 → placeOf (r .place) ≡ r .place)
 
--- a curve of degree n is 1 + 4 × (n + 1) numbers
+-- a curve of degree n is 2 + 4 × (n + 1) numbers
 abbrev pub CurveLength : Type 0
-CurveLength = (c : Curve) → length (curveNumbers c) ≡ 1 + 4 * (c .degree + 1)
+CurveLength = (c : Curve) → length (curveNumbers c) ≡ 2 + 4 * (c .degree + 1)
 
--- a refusal with one of the listed numbers 1 to 16, or none
+-- a refusal with one of the listed numbers 1 to 17, or none
 pub record Listed (r : Refusal) : Type 0 where
-  pub known : r .number ≤ 16
+  pub known : r .number ≤ 17
   pub zero : r .number ≡ 0 → r ≡ none
 
 -- so is the refusal of every call within, and with that of a list that is too short behind it

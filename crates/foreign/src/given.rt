@@ -78,9 +78,9 @@ fn last_place(degree: u32) -> usize
     }
 }
 
-// The curve of this degree with these sides.
-pub fn curve_from(degree: u32, sides: &[i32]) -> Curve
-    ensures { λ r. ⌜ r ≡ curveFrom degree (now (sides .entry)) ⌝ }
+// The curve of this degree with this sum and these sides.
+pub fn curve_from(degree: u32, sum: u16, sides: &[i32]) -> Curve
+    ensures { λ r. ⌜ r ≡ curveFrom degree sum (now (sides .entry)) ⌝ }
 {
     let last = last_place(degree);
     let mut points = [zero_rect(); PLACES];
@@ -90,7 +90,11 @@ pub fn curve_from(degree: u32, sides: &[i32]) -> Curve
         k += 1;
         points[k] = rect_at(sides, RECT_LENGTH * k);
     }
-    Curve { degree, points }
+    Curve {
+        degree,
+        sum,
+        points,
+    }
 }
 
 // The rectangles of a slice that has all their sides, and zero past the last one.
@@ -109,17 +113,18 @@ fn whole_points(sides: &[i32], last: usize) -> [Rect; PLACES]
     points
 }
 
-// The curve of this degree with these sides. The slice's length is tested once, so that four sides are copied at a time: faster where the
+// The same. The slice's length is tested once, so that four sides are copied at a time: faster where the
 // curve is stored before it is looked at, and slower where its sides are used at once.
-pub fn stored_curve_from(degree: u32, sides: &[i32]) -> Curve
-    ensures { λ r. ⌜ r ≡ curveFrom degree (now (sides .entry)) ⌝ }
+pub fn stored_curve_from(degree: u32, sum: u16, sides: &[i32]) -> Curve
+    ensures { λ r. ⌜ r ≡ curveFrom degree sum (now (sides .entry)) ⌝ }
 {
     let last = last_place(degree);
     if RECT_LENGTH * (last + 1) > sides.len() {
-        return curve_from(degree, sides);
+        return curve_from(degree, sum, sides);
     }
     Curve {
         degree,
+        sum,
         points: whole_points(sides, last),
     }
 }

@@ -1,5 +1,6 @@
 // Every public call on numbers and lent slices, for C and Rust to call. Prototypes and the layout of curves are in include/jusqani.h.
 // Each takes any slices, and gives what the call within gives (specs/Calls.antt) or refuses; a refused call stores nothing.
+// A call that never looks at a curve's sum of steps is given none, and hands on 0.
 ghost use mathlib.Core.Path.{_≡_};
 ghost use Rattle.curve.specs.Calls.{evaluated, subdivided, elevated, bounded};
 ghost use Rattle.sixteenths.specs.Sixteenths.{evaluatedSixteenths};
@@ -78,9 +79,9 @@ pub extern "C" fn jusqani_evaluate(
     ohms: &mut [f32],
     exact: &mut u32,
 ) -> u64
-    ensures { λ r. ⌜ GivesEvaluation (evaluated (curveFrom degree (now (sides .entry))) num den) (now (load .entry)) (now (ohms .entry)) (now (exact .entry)) r (now (load .exit)) (now (ohms .exit)) (now (exact .exit)) ⌝ }
+    ensures { λ r. ⌜ GivesEvaluation (evaluated (curveFrom degree 0 (now (sides .entry))) num den) (now (load .entry)) (now (ohms .entry)) (now (exact .entry)) r (now (load .exit)) (now (ohms .exit)) (now (exact .exit)) ⌝ }
 {
-    let answer = curve::evaluate(curve_from(degree, sides), num, den);
+    let answer = curve::evaluate(curve_from(degree, 0, sides), num, den);
     give_evaluation(answer, load, ohms, exact)
 }
 
@@ -94,16 +95,17 @@ pub extern "C" fn jusqani_evaluate_sixteenths(
     ohms: &mut [f32],
     exact: &mut u32,
 ) -> u64
-    ensures { λ r. ⌜ GivesEvaluation (evaluatedSixteenths (curveFrom degree (now (sides .entry))) j) (now (load .entry)) (now (ohms .entry)) (now (exact .entry)) r (now (load .exit)) (now (ohms .exit)) (now (exact .exit)) ⌝ }
+    ensures { λ r. ⌜ GivesEvaluation (evaluatedSixteenths (curveFrom degree 0 (now (sides .entry))) j) (now (load .entry)) (now (ohms .entry)) (now (exact .entry)) r (now (load .exit)) (now (ohms .exit)) (now (exact .exit)) ⌝ }
 {
-    let answer = sixteenths::evaluate_sixteenths(curve_from(degree, sides), j);
+    let answer = sixteenths::evaluate_sixteenths(curve_from(degree, 0, sides), j);
     give_evaluation(answer, load, ohms, exact)
 }
 
-// The two pieces at num/den, and whether nothing was rounded; refusals 1 to 5 and 12.
+// The two pieces at num/den, and whether nothing was rounded; refusals 1 to 5, 17 and 12.
 #[no_mangle]
 pub extern "C" fn jusqani_subdivide(
     degree: u32,
+    sum: u16,
     sides: &[i32],
     num: u32,
     den: u32,
@@ -111,9 +113,9 @@ pub extern "C" fn jusqani_subdivide(
     right: &mut [i32],
     exact: &mut u32,
 ) -> u64
-    ensures { λ r. ⌜ GivesSubdivision (subdivided (curveFrom degree (now (sides .entry))) num den) (now (left .entry)) (now (right .entry)) (now (exact .entry)) r (now (left .exit)) (now (right .exit)) (now (exact .exit)) ⌝ }
+    ensures { λ r. ⌜ GivesSubdivision (subdivided (curveFrom degree sum (now (sides .entry))) num den) (now (left .entry)) (now (right .entry)) (now (exact .entry)) r (now (left .exit)) (now (right .exit)) (now (exact .exit)) ⌝ }
 {
-    let answer = curve::subdivide(stored_curve_from(degree, sides), num, den);
+    let answer = curve::subdivide(stored_curve_from(degree, sum, sides), num, den);
     let start = answer.left;
     let rest = answer.right;
     let first = with_room(answer.refusal, curve_length(start.degree), left.len());
@@ -124,17 +126,18 @@ pub extern "C" fn jusqani_subdivide(
     answer_of(refusal)
 }
 
-// The curve with its degree raised by one, and whether nothing was rounded; refusals 1 to 3, 6 and 12.
+// The curve with its degree raised by one, and whether nothing was rounded; refusals 1 to 3, 6, 17 and 12.
 #[no_mangle]
 pub extern "C" fn jusqani_elevate(
     degree: u32,
+    sum: u16,
     sides: &[i32],
     raised: &mut [i32],
     exact: &mut u32,
 ) -> u64
-    ensures { λ r. ⌜ GivesElevation (elevated (curveFrom degree (now (sides .entry)))) (now (raised .entry)) (now (exact .entry)) r (now (raised .exit)) (now (exact .exit)) ⌝ }
+    ensures { λ r. ⌜ GivesElevation (elevated (curveFrom degree sum (now (sides .entry)))) (now (raised .entry)) (now (exact .entry)) r (now (raised .exit)) (now (exact .exit)) ⌝ }
 {
-    let answer = curve::elevate(curve_from(degree, sides));
+    let answer = curve::elevate(curve_from(degree, sum, sides));
     let curve = answer.curve;
     let refusal = with_room(answer.refusal, curve_length(curve.degree), raised.len());
     put_curve(raised, refusal, curve);
@@ -145,27 +148,29 @@ pub extern "C" fn jusqani_elevate(
 // The least rectangle that holds the curve's; refusals 1 to 3 and 12.
 #[no_mangle]
 pub extern "C" fn jusqani_bounds(degree: u32, sides: &[i32], rect: &mut [i32]) -> u64
-    ensures { λ r. ⌜ GivesEnclosure (bounded (curveFrom degree (now (sides .entry)))) (now (rect .entry)) r (now (rect .exit)) ⌝ }
+    ensures { λ r. ⌜ GivesEnclosure (bounded (curveFrom degree 0 (now (sides .entry)))) (now (rect .entry)) r (now (rect .exit)) ⌝ }
 {
-    let answer = curve::bounds(curve_from(degree, sides));
+    let answer = curve::bounds(curve_from(degree, 0, sides));
     let refusal = with_room(answer.refusal, RECT_LENGTH, rect.len());
     put_rect(rect, refusal, answer.rect);
     answer_of(refusal)
 }
 
-// The verdict on whether the curve stays in a box; refusals 1 to 3, 7 to 9 and 12.
+// The verdict on whether the curve stays in a box; refusals 1 to 3, 7 to 9, 17 and 12.
 #[no_mangle]
 pub extern "C" fn jusqani_search(
     degree: u32,
+    sum: u16,
     sides: &[i32],
     limits: &[i32],
     depth: u32,
     budget: u32,
     verdict: &mut [u32],
 ) -> u64
-    ensures { λ r. ⌜ GivesSearch (searched (curveFrom degree (now (sides .entry))) (rectAt (now (limits .entry)) 0) depth budget) (now (verdict .entry)) r (now (verdict .exit)) ⌝ }
+    ensures { λ r. ⌜ GivesSearch (searched (curveFrom degree sum (now (sides .entry))) (rectAt (now (limits .entry)) 0) depth budget) (now (verdict .entry)) r (now (verdict .exit)) ⌝ }
 {
-    let answer = search::search(curve_from(degree, sides), rect_at(limits, 0), depth, budget);
+    let curve = curve_from(degree, sum, sides);
+    let answer = search::search(curve, rect_at(limits, 0), depth, budget);
     let refusal = with_room(answer.refusal, VERDICT_LENGTH, verdict.len());
     let found = answer.verdict;
     put_verdict(verdict, refusal, found);
@@ -182,19 +187,20 @@ fn give_choice(answer: ChoiceAnswer, choice: &mut [u32]) -> u64
     answer_of(refusal)
 }
 
-// The first record of a list of settings whose box the curve stays in; refusals 16, 1 to 3, 7 to 9 and 12. The list is lent as it is, so this call only hands it on.
+// The first record of a list of settings whose box the curve stays in; refusals 16, 1 to 3, 7 to 9, 17 and 12. The list is lent as it is, so this call only hands it on.
 #[no_mangle]
 pub extern "C" fn jusqani_choose_setting(
     degree: u32,
+    sum: u16,
     sides: &[i32],
     settings: &[Setting],
     depth: u32,
     budget: u32,
     choice: &mut [u32],
 ) -> u64
-    ensures { λ r. ⌜ (GivesChoice (chosen (curveFrom degree (now (sides .entry))) (now (settings .entry)) depth budget) (now (choice .entry)) r (now (choice .exit))) × (now (settings .exit) ≡ now (settings .entry)) ⌝ }
+    ensures { λ r. ⌜ (GivesChoice (chosen (curveFrom degree sum (now (sides .entry))) (now (settings .entry)) depth budget) (now (choice .entry)) r (now (choice .exit))) × (now (settings .exit) ≡ now (settings .entry)) ⌝ }
 {
-    let curve = curve_from(degree, sides);
+    let curve = curve_from(degree, sum, sides);
     let answer = settings::choose_setting(curve, settings, depth, budget);
     give_choice(answer, choice)
 }
@@ -227,8 +233,8 @@ pub extern "C" fn jusqani_read_card(card: &[u8], curve: &mut [i32]) -> u64
 // The card of a curve; refusals 1 to 3 and 12.
 #[no_mangle]
 pub extern "C" fn jusqani_write_card(degree: u32, sides: &[i32], card: &mut [u8]) -> u64
-    ensures { λ r. ⌜ (r ≡ answerOf (writeCard (curveFrom degree (now (sides .entry))) (now (card .entry)) .refusal)) × (now (card .exit) ≡ bytesAfter (curveFrom degree (now (sides .entry))) (now (card .entry))) ⌝ }
+    ensures { λ r. ⌜ (r ≡ answerOf (writeCard (curveFrom degree 0 (now (sides .entry))) (now (card .entry)) .refusal)) × (now (card .exit) ≡ bytesAfter (curveFrom degree 0 (now (sides .entry))) (now (card .entry))) ⌝ }
 {
-    let answer = card_text::write_card(curve_from(degree, sides), card);
+    let answer = card_text::write_card(curve_from(degree, 0, sides), card);
     answer_of(answer.refusal)
 }

@@ -2,6 +2,7 @@
 ghost use mathlib.Core.Path.{_≡_};
 ghost use mathlib.Core.List.{_++_};
 ghost use Prim.Native.Nat.{_+_, _*_, _≤_};
+ghost use lib.IntN.{pos};
 ghost use lib.ListN.{length, drop};
 ghost use lib.Seq.{sets};
 ghost use Rattle.curve.specs.Limits.{maxDegree};
@@ -25,11 +26,11 @@ pub const VERDICT_LENGTH: usize = 4;
 
 pub const CHOICE_LENGTH: usize = 3;
 
-// The numbers of a curve of this degree: the degree, and its sides.
+// The numbers of a curve of this degree: the degree, the sum, and its sides.
 pub fn curve_length(degree: u32) -> usize
-    ensures { λ r. ⌜ r ≡ 1 + 4 * (degree + 1) ⌝ }
+    ensures { λ r. ⌜ r ≡ 2 + 4 * (degree + 1) ⌝ }
 {
-    1 + RECT_LENGTH * (degree as usize + 1)
+    2 + RECT_LENGTH * (degree as usize + 1)
 }
 
 // Stores a rectangle's sides at an offset.
@@ -49,7 +50,14 @@ fn store_rect(out: &mut [i32], at: usize, p: Rect)
     out[at + 3] = xhigh;
 }
 
-// Stores a curve's degree and sides.
+// A curve's sum of steps as a number of the same kind as a side.
+fn sum_number(c: Curve) -> i32
+    ensures { λ r. ⌜ r ≡ pos (c .sum) ⌝ }
+{
+    c.sum as i32
+}
+
+// Stores a curve's degree, sum and sides.
 fn store_curve(out: &mut [i32], c: Curve)
     requires { ⌜ c .degree ≤ maxDegree ⌝ }
     requires { ⌜ length (curveNumbers c) ≤ length (now out) ⌝ }
@@ -59,10 +67,11 @@ fn store_curve(out: &mut [i32], c: Curve)
     let mut k = 0;
     while k <= n {
         let p = c.points[k];
-        store_rect(out, 1 + RECT_LENGTH * k, p);
+        store_rect(out, 2 + RECT_LENGTH * k, p);
         k += 1;
     }
     out[0] = c.degree as i32;
+    out[1] = sum_number(c);
 }
 
 // Gives a rectangle, unless the call is refused.

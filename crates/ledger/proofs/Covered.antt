@@ -6,14 +6,12 @@ use native.Mathlib.Nat.{mul-zero}
 use Rattle.rational.specs.Fraction.{Frac, Equal, _*ᶠ_, complement}
 use Rattle.rational.proofs.Rational.{ℚ, rat, rat-add, rat-mul, _+ℚ_, _*ℚ_, zero-+ℚ}
 use Rattle.rational.proofs.RationalOrder.{equal-of}
-use Rattle.bernstein.specs.Affine.{exactAffine}
-use Rattle.bernstein.specs.DeCasteljau as DeCasteljau
 use Rattle.bernstein.proofs.Curve.{curve, bernstein-curve}
 use Rattle.bernstein.proofs.Rounded.{Near}
 use Rattle.curve.specs.declared.Curve.{Curve}
 use Rattle.curve.specs.Rect.{Coordinate, side}
-use Rattle.curve.specs.Curve.{point, leftOf, rightOf}
-use Rattle.curve.specs.Refusals.{Accepted, AcceptedAt}
+use Rattle.curve.specs.Curve.{point, pieceSum, leftOf, rightOf}
+use Rattle.curve.specs.Refusals.{Accepted, AcceptedAt, AcceptedSum}
 use Rattle.curve.specs.Calls.{subdivided}
 use Rattle.curve.specs.Inner.{Factors}
 use Rattle.curve.proofs.Accepted.{parameter-facts}
@@ -21,9 +19,10 @@ use Rattle.curve.proofs.Answers.{subdivided-accepted}
 use Rattle.curve.proofs.Pieces.{left-degree, right-degree}
 use Rattle.ledger.specs.Ordinary.{Ordinary, InsideOf, loadAt}
 use Rattle.ledger.specs.Ledger.{Piece, left, right, kept, parameter}
-use Rattle.ledger.specs.Promises.{part, placeOn, Covers, PiecesCover}
+use Rattle.ledger.specs.Exact.{part}
+use Rattle.ledger.specs.Promises.{placeOn, Covers, PiecesCover}
 use Rattle.ledger.proofs.Stretch.{Stretch}
-use Rattle.ledger.proofs.Steps.{exact-mean, left-stretch, right-stretch}
+use Rattle.ledger.proofs.Steps.{left-stretch, right-stretch, left-exact, right-exact}
 use Rattle.ledger.proofs.Evaluation.{inward, inward-none, bounded-near, near-bounded}
 
 -- an ordinary curve whose control points are those of another, moved as a stretch moves them
@@ -47,7 +46,7 @@ module _
       ∙ ap₂ (λ (n : ℕ) (y : ℚ). curve (λ i. rat (o .control x i)) n y) (sym (inside .degrees)) h
       ∙ sym (bernstein-curve (o .degree) (o .control x) place))
 
-module _ (c : Curve) (accepted : Accepted c) (o : Ordinary) (inside : InsideOf o c) (num den : ℕ) (at : AcceptedAt num den) where
+module _ (c : Curve) (accepted : Accepted c) (o : Ordinary) (inside : InsideOf o c) (num den : ℕ) (at : AcceptedAt num den) (room : AcceptedSum (pieceSum c)) where
   abbrev t : Frac
   t = parameter num den
 
@@ -65,22 +64,13 @@ module _ (c : Curve) (accepted : Accepted c) (o : Ordinary) (inside : InsideOf o
     loads = λ x u. moved-load c now start width steps stretch o (part piece t o) inside degrees same x u (placeOn piece t u) (place u);
   }
 
-  left-same : (x : Coordinate) (k : ℕ) → rat (part left t o .control x k) ≡ left-stretch c accepted num den f .move (λ i. rat (o .control x i)) k
-  unfolding left-stretch DeCasteljau.left
-  left-same x k = exact-mean num den f (o .control x) k 0
-
-  right-same : (x : Coordinate) (k : ℕ) → rat (part right t o .control x k) ≡ right-stretch c accepted num den f .move (λ i. rat (o .control x i)) k
-  unfolding right-stretch DeCasteljau.right
-  right-same x k =
-      ap (λ (n : ℕ). rat (DeCasteljau.right (exactAffine t) (o .control x) n k)) (inside .degrees) ∙ exact-mean num den f (o .control x) (c .degree - k) k
-
   covered : (piece : Piece) → Covers c o num den piece
   covered left =
-      covers left (leftOf c num den) _ _ _ (left-stretch c accepted num den f) (ap (λ s. s .left) (sym (subdivided-accepted c num den accepted at)))
-      (inside .degrees ∙ sym (left-degree c num den)) left-same (λ u. zero-+ℚ _ ∙ sym (rat-mul t u))
+      covers left (leftOf c num den) _ _ _ (left-stretch c accepted num den f) (ap (λ s. s .left) (sym (subdivided-accepted c num den accepted at room)))
+      (inside .degrees ∙ sym (left-degree c num den)) (left-exact c accepted o (inside .degrees) num den f) (λ u. zero-+ℚ _ ∙ sym (rat-mul t u))
   covered right =
-      covers right (rightOf c num den) _ _ _ (right-stretch c accepted num den f) (ap (λ s. s .right) (sym (subdivided-accepted c num den accepted at)))
-      (inside .degrees ∙ sym (right-degree c num den)) right-same
+      covers right (rightOf c num den) _ _ _ (right-stretch c accepted num den f) (ap (λ s. s .right) (sym (subdivided-accepted c num den accepted at room)))
+      (inside .degrees ∙ sym (right-degree c num den)) (right-exact c accepted o (inside .degrees) num den f)
       (λ u. ap (λ y. rat t +ℚ y) (sym (rat-mul (complement t) u)) ∙ sym (rat-add t (complement t *ᶠ u)))
 
 pub pieces-cover : PiecesCover

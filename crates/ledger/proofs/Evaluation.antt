@@ -55,15 +55,15 @@ near-bounded down v s h = ≤ᶠ-of (whole s) v (excess-order h)
 near-bounded up v s h = ≤ᶠ-of v (whole s) (excess-order h)
 
 -- outward, where each rounding adds one step
-abbrev outward : Rounding → Side
+abbrev pub outward : Rounding → Side
 outward down = under
 outward up = over
 
-outward-one : (r : Rounding) (m : ℕ) → error (outward r) r * m ≡ m
+pub outward-one : (r : Rounding) (m : ℕ) → error (outward r) r * m ≡ m
 outward-one down m = one-mul m
 outward-one up m = one-mul m
 
-near-itself : (way : Side) (s : ℤ) → Near way 0 s (embed s)
+pub near-itself : (way : Side) (s : ℤ) → Near way 0 s (embed s)
 near-itself over s = order-excess (≤ℚ-refl (embed s))
 near-itself under s = order-excess (≤ℚ-refl (embed s))
 
@@ -71,7 +71,7 @@ near-itself under s = order-excess (≤ℚ-refl (embed s))
 plus-whole : (a : Frac) (d : ℕ) → rat (a +ᶠ whole (pos d)) ≡ rat a +ℚ embed (pos d)
 plus-whole a d = rat-add a (whole (pos d)) ∙ ap (λ x. rat a +ℚ x) (rat-whole (pos d))
 
-near-claimed : (r : Rounding) (d : ℕ) (s : ℤ) (exact : Frac) → Near (outward r) d s (rat exact) → Claim.Near r d s exact
+pub near-claimed : (r : Rounding) (d : ℕ) (s : ℤ) (exact : Frac) → Near (outward r) d s (rat exact) → Claim.Near r d s exact
 unfolding embed
 near-claimed down d s exact h = ≤ᶠ-of exact (whole s +ᶠ whole (pos d)) (subst (λ x. rat exact ≤ℚ x) (sym (plus-whole (whole s) d)) (h .bound))
 near-claimed up d s exact h = ≤ᶠ-of (whole s) (exact +ᶠ whole (pos d)) (subst (λ x. rat (whole s) ≤ℚ x) (sym (plus-whole exact d)) (h .bound))

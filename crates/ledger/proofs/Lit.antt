@@ -28,10 +28,11 @@ use Rattle.curve.proofs.Accepted.{accepted-facts, parameter-facts}
 use Rattle.curve.proofs.Answers.{subdivision, evaluated-accepted, subdivided-accepted, elevated-accepted}
 use Rattle.curve.proofs.Points.{sides, side-table, side-affine}
 use Rattle.curve.proofs.Pieces.{left-point, right-point, elevated-point}
-use Rattle.curve.proofs.Flags.{lit-accepted, table-lit, elevation-lit}
+use Rattle.curve_promises.proofs.Flags.{lit-accepted, table-lit, elevation-lit}
 use Rattle.ledger.specs.Ordinary.{exactSide}
 use Rattle.ledger.specs.Ledger.{Piece, left, right, kept, parameter}
-use Rattle.ledger.specs.Promises.{edge, part, raised, ExactLoad, ExactPieces, ExactElevation}
+use Rattle.ledger.specs.Promises.{ExactLoad, ExactPieces, ExactElevation}
+use Rattle.ledger.specs.Exact.{edge, part, raised}
 use Rattle.ledger.proofs.Steps.{exact-map, exact-mean}
 
 -- the table of an accepted curve whose flag is lit
@@ -63,8 +64,8 @@ exact-load c num den flag x r =
 pub exact-pieces : ExactPieces
 unfolding DeCasteljau.left DeCasteljau.right
 exact-pieces c num den flag piece x r k h =
-    let (ok, at) = lit-accepted .subdividing c num den flag in
-    let answer = subdivided-accepted c num den ok at in
+    let (ok, at, room) = lit-accepted .subdividing c num den flag in
+    let answer = subdivided-accepted c num den ok at room in
     let lit : tableExact c num den ≡ true = sym (ap (λ (s : Subdivision). s .exact) answer) ∙ flag in
     equal-of (whole (side x r _)) (part piece (parameter num den) (edge r c) .control x k)
     (ap (λ (s : Subdivision). rat (whole (side x r (point (kept piece s) k)))) answer ∙ at-piece piece (accepted-facts c ok .few) (entry-exact c num den at lit x r))
@@ -80,15 +81,15 @@ exact-pieces c num den flag piece x r k h =
 pub exact-elevation : ExactElevation
 unfolding embed elevatedPoint
 exact-elevation c flag x r k h =
-    let (ok, below) = lit-accepted .elevating c flag in
-    let answer = elevated-accepted c ok below in
+    let (ok, below, room) = lit-accepted .elevating c flag in
+    let answer = elevated-accepted c ok below room in
     let lit : elevationExact c ≡ true = sym (ap (λ (e : Elevation). e .exact) answer) ∙ flag in
     let n = c .degree in
     let a = side x r (point c (k - 1)) in
     let b = side x r (point c k) in
     let rest : n + 1 - (n + 1 - k) ≡ k = omega arith in
     let factors : Factors (n + 1 - (n + 1 - k)) (n + 1 - k) (n + 1) = record { total = omega arith; positive = omega arith; small = omega arith } in
-    equal-of (whole (side x r _)) (raised (edge r c) x k)
+    equal-of (whole (side x r _)) (raised (edge r c) .control x k)
     (ap (λ (e : Elevation). embed (side x r (point (e .curve) k))) answer
     ∙ ap (λ (p : Rect). embed (side x r p)) (elevated-point c k below h)
     ∙ ap embed (side-affine x r k (n + 1 - k) (n + 1) (point c (k - 1)) (point c k))

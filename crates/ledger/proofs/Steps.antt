@@ -1,4 +1,4 @@
--- The two pieces of an accepted curve and its elevated curve are stretches of it, with the ledger's widths and sums.
+-- The two pieces of an accepted curve and its elevated curve are stretches of it, with the ledger's widths and sums, and move an ordinary curve's control points as the exact steps do.
 -- Assumes nothing.
 use mathlib.Core.Path.{_≡_, sym, ap, ap₂, _∙_, subst}
 use Prim.Native.Nat.{ℕ, suc, pred, _+_, _*_, _-_, _≤_, _<_}
@@ -19,14 +19,16 @@ use Rattle.bernstein.proofs.Curve.{curve, left-curve, right-curve, elevate-curv
 use Rattle.bernstein.proofs.Rounded.{Near, error, left-near, right-near, elevate-near}
 use Rattle.curve.specs.declared.Curve.{Curve}
 use Rattle.curve.specs.Limits.{maxDegree}
-use Rattle.curve.specs.Rect.{side}
+use Rattle.curve.specs.Rect.{Coordinate, side}
 use Rattle.curve.specs.Curve.{point, leftOf, rightOf, elevatedOf}
 use Rattle.curve.specs.Refusals.{Accepted}
 use Rattle.curve.specs.Inner.{Factors}
 use Rattle.curve.proofs.Accepted.{accepted-facts}
 use Rattle.curve.proofs.Points.{sides, side-left, side-right, side-elevated}
 use Rattle.curve.proofs.Pieces.{left-point, right-point, elevated-point}
-use Rattle.ledger.specs.Ledger.{parameter}
+use Rattle.ledger.specs.Ordinary.{Ordinary}
+use Rattle.ledger.specs.Ledger.{left as leftPiece, right as rightPiece, parameter}
+use Rattle.ledger.specs.Exact.{part, raised}
 use Rattle.ledger.proofs.Stretch.{Stretch}
 
 -- a parameter as a rational number, and its complement
@@ -53,6 +55,9 @@ module _ (num den : ℕ) (f : Factors (den - num) num den) where
       (p : ℕ → Frac) (j k : ℕ) →
       rat (table (exactAffine (parameter num den)) p j k) ≡ table (mean den (f .positive) (den - num) num) (λ i. rat (p i)) j k
   exact-mean = table-image (exactAffine (parameter num den)) (mean den (f .positive) (den - num) num) rat exact-map
+
+pub above-zero : (n : ℕ) → 0 < suc n
+above-zero n = omega arith
 
 module _ (c : Curve) (accepted : Accepted c) where
   abbrev few : c .degree ≤ maxDegree
@@ -86,20 +91,40 @@ module _ (c : Curve) (accepted : Accepted c) where
     }
 
   -- the elevated curve: the whole stretch, one step further
-  pub elevated-stretch : c .degree < maxDegree → Stretch (embed (pos 0)) (embed (pos 1)) 1 c (elevatedOf c)
+  unfoldable pub elevated-stretch : c .degree < maxDegree → Stretch (embed (pos 0)) (embed (pos 1)) 1 c (elevatedOf c)
   unfolding elevatedOf
   elevated-stretch below = record {
-    move = elevate (mean (suc (c .degree)) above-zero) (c .degree);
+    move = elevate (mean (suc (c .degree)) (above-zero (c .degree))) (c .degree);
     moved = λ q u.
-        ap (λ (m : ℕ). curve (elevate (mean (suc (c .degree)) above-zero) (c .degree) q) m u) (add-one (c .degree))
-        ∙ elevate-curve q (c .degree) u above-zero
+        ap (λ (m : ℕ). curve (elevate (mean (suc (c .degree)) (above-zero (c .degree))) (c .degree) q) m u) (add-one (c .degree))
+        ∙ elevate-curve q (c .degree) u (above-zero (c .degree))
         ∙ ap (curve q (c .degree)) (sym (zero-+ℚ (embed (pos 1) *ℚ u) ∙ one-*ℚ u));
     near = λ x r way m q start k h.
         rw (add-one m)
-        (subst (λ (z : ℤ). Near way (error way r * suc m) z (elevate (mean (suc (c .degree)) above-zero) (c .degree) q k))
+        (subst (λ (z : ℤ). Near way (error way r * suc m) z (elevate (mean (suc (c .degree)) (above-zero (c .degree))) (c .degree) q k))
         (sym (ap (side x r) (elevated-point c k below h) ∙ side-elevated x r (point c) (c .degree) k))
-        (elevate-near r (c .degree) above-zero way (sides x r (point c)) q m start k (omega arith)));
+        (elevate-near r (c .degree) (above-zero (c .degree)) way (sides x r (point c)) q m start k (omega arith)));
   }
-    where
-      above-zero : 0 < suc (c .degree)
-      above-zero = omega arith
+
+  -- ---- an ordinary curve's control points, moved as the exact steps move them
+  module _ (o : Ordinary) (degrees : o .degree ≡ c .degree) where
+    module _ (num den : ℕ) (f : Factors (den - num) num den) where
+      pub left-exact : (x : Coordinate) (k : ℕ) → rat (part leftPiece (parameter num den) o .control x k) ≡ left-stretch num den f .move (λ i. rat (o .control x i)) k
+      unfolding left-stretch left
+      left-exact x k = exact-mean num den f (o .control x) k 0
+
+      pub right-exact : (x : Coordinate) (k : ℕ) → rat (part rightPiece (parameter num den) o .control x k) ≡ right-stretch num den f .move (λ i. rat (o .control x i)) k
+      unfolding right-stretch right
+      right-exact x k =
+          ap (λ (n : ℕ). rat (right (exactAffine (parameter num den)) (o .control x) n k)) degrees ∙ exact-mean num den f (o .control x) (c .degree - k) k
+
+    pub raised-exact : (below : c .degree < maxDegree) (x : Coordinate) (k : ℕ) → k ≤ c .degree + 1 → rat (raised o .control x k) ≡ elevated-stretch below .move (λ i. rat (o .control x i)) k
+    unfolding elevated-stretch elevate
+    raised-exact below x k h =
+        let n = c .degree in
+        let one-more : o .degree + 1 ≡ suc n = ap (λ (m : ℕ). m + 1) degrees ∙ add-one n in
+        let factors : Factors (suc n - (suc n - k)) (suc n - k) (suc n) = record { total = omega arith; positive = above-zero n; small = omega arith } in
+        let rest : suc n - (suc n - k) ≡ k = omega arith in
+        ap (λ (m : ℕ). rat (exactAffine (parameter (m - k) m) (o .control x (k - 1)) (o .control x k))) one-more
+        ∙ exact-map (suc n - k) (suc n) factors (o .control x (k - 1)) (o .control x k)
+        ∙ ap (λ (s : ℕ). mean (suc n) (factors .positive) s (suc n - k) (rat (o .control x (k - 1))) (rat (o .control x k))) rest

@@ -9,7 +9,7 @@ use Rattle.rational.specs.Fraction.{Frac, _+ᶠ_, _*ᶠ_, whole, complement}
 use Rattle.curve.specs.declared.Curve.{Curve}
 use Rattle.curve.specs.declared.Refusal.{Refusal}
 use Rattle.curve.specs.declared.Subdivision.{Subdivision}
-use Rattle.curve.specs.Refusals.{parameterRefusal, highestRefusal}
+use Rattle.curve.specs.Refusals.{_orElse_, parameterRefusal, highestRefusal, sumRefusal}
 use Rattle.curve.specs.Calls.{evaluated, subdivided, elevated}
 use Rattle.sixteenths.specs.Sixteenths.{numeratorRefusal, evaluatedSixteenths}
 
@@ -51,25 +51,34 @@ leaves c call = cond (eqb (refusalOf c call .number) 0) (answerOf c call) c
 
 -- ---- the ledger
 
+-- its own sum of steps starts at 0; the sum that the starting curve brought only tells when a call has no room for its sum
 pub record Ledger : Type 0 where
   pub degree : ℕ
   pub start : Frac
   pub width : Frac
   pub sum : ℕ
+  pub brought : ℕ
 
 unfoldable pub opened : Curve → Ledger
-opened c = record { degree = c .degree; start = whole (pos 0); width = whole (pos 1); sum = 0 }
+opened c = record { degree = c .degree; start = whole (pos 0); width = whole (pos 1); sum = 0; brought = c .sum }
 
 -- num/den; a den of 0 is refused before this is used
 unfoldable pub parameter : ℕ → ℕ → Frac
 parameter num den = record { upper = pos num; lower = suc (pred den); positive = suc-le-suc zero-le }
 
+-- the sum of steps after a subdivision, and after an elevation
+abbrev pub subdividedSum : Ledger → ℕ
+subdividedSum l = l .sum + l .degree
+
+abbrev pub elevatedSum : Ledger → ℕ
+elevatedSum l = l .sum + 1
+
 -- the refusal, as what is fed and held tells it
 abbrev pub refused : Ledger → Call → Refusal
 refused l (evaluate num den) = parameterRefusal num den
 refused l (evaluateSixteenths j) = numeratorRefusal j
-refused l (subdivide num den piece) = parameterRefusal num den
-refused l elevate = highestRefusal (l .degree)
+refused l (subdivide num den piece) = parameterRefusal num den orElse sumRefusal (l .brought + subdividedSum l)
+refused l elevate = highestRefusal (l .degree) orElse sumRefusal (l .brought + elevatedSum l)
 
 -- the place of t in the stretch that is left
 unfoldable pub placeOf : Ledger → Frac → Frac
@@ -80,15 +89,23 @@ abbrev pub entered : Ledger → Call → Ledger
 entered l (evaluate num den) = l
 entered l (evaluateSixteenths j) = l
 entered l (subdivide num den left) =
-    record { degree = l .degree; start = l .start; width = l .width *ᶠ parameter num den; sum = l .sum + l .degree }
+    record {
+      degree = l .degree;
+      start = l .start;
+      width = l .width *ᶠ parameter num den;
+      sum = subdividedSum l;
+      brought = l .brought;
+    }
 entered l (subdivide num den right) =
     record {
       degree = l .degree;
       start = placeOf l (parameter num den);
       width = l .width *ᶠ complement (parameter num den);
-      sum = l .sum + l .degree;
+      sum = subdividedSum l;
+      brought = l .brought;
     }
-entered l elevate = record { degree = l .degree + 1; start = l .start; width = l .width; sum = l .sum + 1 }
+entered l elevate =
+    record { degree = l .degree + 1; start = l .start; width = l .width; sum = elevatedSum l; brought = l .brought }
 
 -- the ledger after any call; a refused one changes nothing
 unfoldable pub after : Ledger → Call → Ledger

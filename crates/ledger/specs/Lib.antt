@@ -1,4 +1,5 @@
 pub mod Ordinary
 pub mod Ledger
+pub mod Exact
 pub mod Claim
 pub mod Promises

@@ -2,26 +2,20 @@
 -- Assumes nothing.
 use mathlib.Core.Path.{_≡_}
 use mathlib.Core.Bool.{true}
-use Prim.Native.Nat.{ℕ, _+_, _-_, _^_, _≤_}
+use Prim.Native.Nat.{ℕ, _+_, _^_, _≤_}
 use lib.IntN.{ℤ, pos}
 use Rattle.rational.specs.Rounding.{Rounding, down, up}
 use Rattle.rational.specs.Fraction.{Frac, Equal, _+ᶠ_, _*ᶠ_, _<ᶠ_, whole, complement}
-use Rattle.bernstein.specs.Affine.{exactAffine}
-use Rattle.bernstein.specs.DeCasteljau as DeCasteljau
 use Rattle.curve.specs.declared.Curve.{Curve}
 use Rattle.curve.specs.Rect.{Coordinate, side, Bounded}
-use Rattle.curve.specs.Curve.{point}
-use Rattle.curve.specs.Refusals.{Accepted, AcceptedAt}
+use Rattle.curve.specs.Curve.{point, pieceSum}
+use Rattle.curve.specs.Refusals.{Accepted, AcceptedAt, AcceptedSum}
 use Rattle.curve.specs.Calls.{evaluated, subdivided, elevated}
 use Rattle.sixteenths.specs.Weights.{sixteenths}
 use Rattle.sixteenths.specs.Sixteenths.{sumOf, evaluatedSixteenths}
 use Rattle.ledger.specs.Ordinary.{Ordinary, InsideOf, loadAt, exactSide}
 use Rattle.ledger.specs.Ledger.{Piece, left, right, kept, parameter}
-
--- the pieces of an ordinary curve subdivided at t, exactly
-abbrev pub part : Piece → Frac → Ordinary → Ordinary
-part left t o = record { degree = o .degree; control = λ x. DeCasteljau.left (exactAffine t) (o .control x) }
-part right t o = record { degree = o .degree; control = λ x. DeCasteljau.right (exactAffine t) (o .control x) (o .degree) }
+use Rattle.ledger.specs.Exact.{edge, part, raised}
 
 -- where u on a piece lies on its parent: the left piece is the parent from 0 to t, the right one from t to 1
 abbrev pub placeOn : Piece → Frac → Frac → Frac
@@ -37,14 +31,10 @@ pub record Covers (c : Curve) (o : Ordinary) (num den : ℕ) (piece : Piece) : T
 
 abbrev pub PiecesCover : Type 0
 PiecesCover =
-    (c : Curve) → Accepted c → (o : Ordinary) → InsideOf o c → (num den : ℕ) → AcceptedAt num den →
+    (c : Curve) → Accepted c → (o : Ordinary) → InsideOf o c → (num den : ℕ) → AcceptedAt num den → AcceptedSum (pieceSum c) →
     (piece : Piece) → Covers c o num den piece
 
 -- ---- a lit flag, whatever was rounded before: what it says is of the curve that the call was given
-
--- the low sides or the high sides of a curve, as an ordinary curve
-abbrev pub edge : Rounding → Curve → Ordinary
-edge r c = record { degree = c .degree; control = λ x k. whole (side x r (point c k)) }
 
 -- a lit evaluation's sides are the exact sides at num/den
 abbrev pub ExactLoad : Type 0
@@ -59,16 +49,12 @@ ExactPieces =
     (piece : Piece) (x : Coordinate) (r : Rounding) (k : ℕ) → k ≤ c .degree →
     Equal (whole (side x r (point (kept piece (subdivided c num den)) k))) (part piece (parameter num den) (edge r c) .control x k)
 
--- an ordinary curve's control point k at one degree more, exactly: k / (n + 1) of the one before, and (n + 1 − k) / (n + 1) of this one
-abbrev pub raised : Ordinary → Coordinate → ℕ → Frac
-raised o x k = exactAffine (parameter (o .degree + 1 - k) (o .degree + 1)) (o .control x (k - 1)) (o .control x k)
-
 -- a lit elevation's control points have the exact sides
 abbrev pub ExactElevation : Type 0
 ExactElevation =
     (c : Curve) → elevated c .exact ≡ true →
     (x : Coordinate) (r : Rounding) (k : ℕ) → k ≤ c .degree + 1 →
-    Equal (whole (side x r (point (elevated c .curve) k))) (raised (edge r c) x k)
+    Equal (whole (side x r (point (elevated c .curve) k))) (raised (edge r c) .control x k)
 
 -- ---- the summed reading at j/16, of the curve that it is given
 

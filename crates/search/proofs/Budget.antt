@@ -117,7 +117,7 @@ never-spent c box depth =
     (λ f s.
     let v = walked box maxBudget depth c 0 0 (Inside 0) in
     let whole-budget = walked-spent box maxBudget depth c 0 0 (Inside 0) (λ e. absurd (going-unspent (clear {n = 0}) e)) s in
-    let shallow = f .shallow in
+    let shallow = f .effort .shallow in
     let pieces : 2 ^ suc depth ≤ 2 ^ 13 = pow-mono {i = suc depth} {j = 13} (omega arith) in
     omega (arith, spent-due v s, walked-due box maxBudget depth c 0 0 (Inside 0), whole-budget, pieces))
 
@@ -132,7 +132,7 @@ larger-budget c box depth budget budget′ some larger few unspent =
     go true e =
         let f = number-facts c box depth budget (eqb-true (searchRefusal c box depth budget .number) 0 e) in
         let unended = subst (λ (a : SearchAnswer). reported (a .verdict) .number ≡ spent → ⊥) (searched-accepted c box depth budget f) unspent in
-        searched-accepted c box depth budget′ (record { accepted = f .accepted; sides = f .sides; shallow = f .shallow; some = omega arith; few = few })
+        searched-accepted c box depth budget′ (record { accepted = f .accepted; sides = f .sides; effort = record { shallow = f .effort .shallow; some = omega arith; few = few; room = f .effort .room } })
         ∙ ap (λ (v : Verdict). answer v none) (sym (walked-larger box budget budget′ larger depth c 0 0 (Inside 0) (omega arith) unended))
         ∙ sym (searched-accepted c box depth budget f)
     go false e =

@@ -175,7 +175,7 @@ module _ (c : Curve) (box : Rect) (depth budget : ℕ) where
   first-look s e f = ends-by-walk f ∙ ap (λ (v : Verdict). eqb (reported v .number) inside) (sym (walked-by box budget depth c 0 0 (Inside 0) s e))
 
   some-budget : Facts c box depth budget → Looks budget (Inside 0)
-  some-budget f = record { going = clear; below = λ e. omega (arith, e, f .some) }
+  some-budget f = record { going = clear; below = λ e. omega (arith, e, f .effort .some) }
 
   pub look-within : Facts c box depth budget → inBox (bounded c .rect) box ≡ true → endsInside c box depth budget ≡ true
   look-within f e = first-look Contained (step-contained box budget c (Inside 0) (some-budget f) (record { contained = e })) f

@@ -6,8 +6,10 @@ pub mod Accepted
 pub mod InsideWalk
 pub mod Budget
 pub mod Named
+pub mod Reached
 pub mod Dyadic
 pub mod Laid
 pub mod Loads
 pub mod Meaning
 pub mod PastUnread
+pub mod SumUnmet

@@ -20,7 +20,7 @@ use Rattle.curve.specs.declared.Curve.{Curve}
 use Rattle.curve.specs.Rect.{Coordinate, along, end, side, Outward, Bounded}
 use Rattle.curve.specs.Curve.{point}
 use Rattle.curve.specs.Calls.{bounded}
-use Rattle.curve.proofs.BoundsLeast.{least-bounds}
+use Rattle.curve_promises.proofs.BoundsLeast.{least-bounds}
 use Rattle.ledger.specs.Ordinary.{Ordinary, InsideOf, loadAt}
 use Rattle.ledger.proofs.Evaluation.{inward, inward-none, bounded-near, near-bounded}
 use Rattle.search.proofs.Dyadic.{Along}

@@ -3,7 +3,7 @@
 use mathlib.Core.Path.{_≡_, refl, sym, ap, _∙_, subst}
 use mathlib.Core.Bool.{Bool, true, false, _||_, false≢true}
 use mathlib.Core.Logic.{_⊎_, inl, inr, ⊎-elim}
-use Prim.Native.Nat.{ℕ, _+_, _*_, _^_}
+use Prim.Native.Nat.{ℕ, _+_, _*_, _≤_, _^_}
 use native.Mathlib.Numerals.{add-one}
 use native.Mathlib.Omega.{arith}
 use borrow.Author.Tests.{eqb-false}
@@ -20,18 +20,19 @@ use Rattle.curve.specs.declared.Rect.{Rect}
 use Rattle.curve.specs.declared.Curve.{Curve}
 use Rattle.curve.specs.Rect.{Coordinate, resistance, reactance, end, along}
 use Rattle.curve.specs.Calls.{bounded}
-use Rattle.curve.specs.Refusals.{Accepted}
+use Rattle.curve.specs.Refusals.{Accepted, AcceptedSum}
 use Rattle.curve.proofs.Tests.{both}
 use Rattle.ledger.specs.Ordinary.{Ordinary, InsideOf, loadAt}
 use Rattle.ledger.specs.Ledger.{parameter}
 use Rattle.search.specs.declared.Verdict.the-variants.{Inside as InsideV}
 use Rattle.search.specs.Verdict.{reported, inside, outside}
 use Rattle.search.specs.Box.{within, disjoint, inBox, apartFrom}
+use Rattle.search.specs.Search.{deepestSum}
 use Rattle.search.specs.Pieces.{pieceAt}
 use Rattle.search.specs.Promises.{answered, Allowed, LoadIn, Between, InsideMeans, OutsideMeans}
 use Rattle.search.proofs.InsideWalk.{inside-on, looked-inside, noted-inside}
 use Rattle.search.proofs.Steps.{Rules, walk-keeps}
-use Rattle.search.proofs.Accepted.{by-answer}
+use Rattle.search.proofs.Accepted.{Facts, by-answer}
 use Rattle.search.proofs.Named.{Place, whole-place, place-half, outside-names}
 use Rattle.search.proofs.Dyadic.{dyadic, parameter-dyadic, dyadic-whole, dyadic-left, dyadic-end, along as point-along}
 use Rattle.search.proofs.Laid.{Laid, laid}
@@ -96,15 +97,15 @@ apart-clash o t p q e l k =
 total : (a b : Frac) → (a ≤ᶠ b) ⊎ (b ≤ᶠ a)
 total a b = elim (≤ℤ-total (a .upper *ℤ pos (b .lower)) (b .upper *ℤ pos (a .lower))) [ inl h ↦ inl (record { crosswise = h }) | inr h ↦ inr (record { crosswise = h }) ]
 
-module _ (c : Curve) (accepted : Accepted c) (box : Rect) (o : Ordinary) (within-rectangles : InsideOf o c) where
+module _ (c : Curve) (accepted : Accepted c) (limit : ℕ) (room : AcceptedSum (deepestSum c limit)) (box : Rect) (o : Ordinary) (within-rectangles : InsideOf o c) where
   -- every load on the stretch of piece i of depth d lies in the box
   Loads : ℕ → ℕ → Type 0
   Loads d i = (t : Frac) → dyadic d i ≤ℚ rat t → rat t ≤ℚ dyadic d (i + 1) → LoadIn o box t
 
   -- every load there lies in the piece's span
-  span-loads : (d i : ℕ) (piece : Curve) → Place c box d i piece → (t : Frac) → dyadic d i ≤ℚ rat t → rat t ≤ℚ dyadic d (i + 1) → LoadSpanned o (bounded piece .rect) t
-  span-loads d i piece p t low high =
-      let here = subst (Laid c d i) (sym (p .is)) (laid c accepted d i (p .numbered)) in
+  span-loads : (d i : ℕ) (piece : Curve) → d ≤ limit → Place c box d i piece → (t : Frac) → dyadic d i ≤ℚ rat t → rat t ≤ℚ dyadic d (i + 1) → LoadSpanned o (bounded piece .rect) t
+  span-loads d i piece deep p t low high =
+      let here = subst (Laid c d i) (sym (p .is)) (laid c limit room accepted d i deep (p .numbered)) in
       load-in-span c d i piece here o within-rectangles t (point-along d i (rat t) low high)
 
   -- both halves make the whole
@@ -120,20 +121,20 @@ module _ (c : Curve) (accepted : Accepted c) (box : Rect) (o : Ordinary) (within
             (subst (λ x. rat t ≤ℚ x) (dyadic-end d i ∙ ap (λ (n : ℕ). dyadic n (i * 2 + 1 + 1)) deeper) high)
       ]
 
-  inside-rules : (budget : ℕ) → Rules box budget (λ m piece d i v u. Place c box d i piece → reported u .number ≡ inside → (reported v .number ≡ inside) × Loads d i)
+  inside-rules : (budget : ℕ) → Rules box budget (λ m piece d i v u. d + m ≡ limit → Place c box d i piece → reported u .number ≡ inside → (reported v .number ≡ inside) × Loads d i)
   unfolding Loads
   inside-rules budget = record {
-    ended = λ m piece d i v e p h. absurd (false≢true (sym e ∙ inside-on v h));
-    exhausted = λ m piece d i v g f p h. absurd (eqb-false 3 1 refl h);
-    contained = λ m piece d i v l w p h. (
+    ended = λ m piece d i v e s p h. absurd (false≢true (sym e ∙ inside-on v h));
+    exhausted = λ m piece d i v g f s p h. absurd (eqb-false 3 1 refl h);
+    contained = λ m piece d i v l w s p h. (
       looked-inside (l .going) h,
-      λ t low high. box-load o t (bounded piece .rect) box (w .contained) (span-loads d i piece p t low high),
+      λ t low high. box-load o t (bounded piece .rect) box (w .contained) (span-loads d i piece (omega arith) p t low high),
     );
-    apart = λ m piece d i v l f p h. absurd (eqb-false 2 1 refl h);
-    limit = λ piece d i v l f p h. absurd (noted-inside d i (l .going) h);
-    halves = λ m piece d i v l f w u e g left right p h.
-        let (left-inside, right-loads) = right (place-half c box d i piece p f (i * 2 + 1) 1 (omega arith) (omega arith)) h in
-        let (whole-inside, left-loads) = left (place-half c box d i piece p f (i * 2) 0 (omega arith) (omega arith)) left-inside in
+    apart = λ m piece d i v l f s p h. absurd (eqb-false 2 1 refl h);
+    limit = λ piece d i v l f s p h. absurd (noted-inside d i (l .going) h);
+    halves = λ m piece d i v l f w u e g left right s p h.
+        let (left-inside, right-loads) = right (omega arith) (place-half c box d i piece p f (i * 2 + 1) 1 (omega arith) (omega arith)) h in
+        let (whole-inside, left-loads) = left (omega arith) (place-half c box d i piece p f (i * 2) 0 (omega arith) (omega arith)) left-inside in
         (looked-inside (l .going) whole-inside, halves-loads d i left-loads right-loads);
   }
 
@@ -146,21 +147,22 @@ inside-means c box depth budget =
     (λ e. absurd (eqb-false 0 1 refl e))
     (λ f e o within-rectangles t b.
     walk-keeps box budget
-    (λ m piece d i v u. Place c box d i piece → reported u .number ≡ inside → (reported v .number ≡ inside) × Loads c (f .accepted) box o within-rectangles d i)
-    (inside-rules c (f .accepted) box o within-rectangles budget) depth c 0 0 (InsideV 0) (whole-place c box) e .1 t
+    (λ m piece d i v u. d + m ≡ depth → Place c box d i piece → reported u .number ≡ inside → (reported v .number ≡ inside) × Loads c (f .accepted) depth (f .effort .room) box o within-rectangles d i)
+    (inside-rules c (f .accepted) depth (f .effort .room) box o within-rectangles budget) depth c 0 0 (InsideV 0) (omega arith) (whole-place c box) e .1 t
     (subst (λ x. x ≤ℚ rat t) (dyadic-whole 0) (≤ℚ-of (b .from))) (subst (λ x. rat t ≤ℚ x) (dyadic-whole 1) (≤ℚ-of (b .to))))
 
--- an answer Outside is of an accepted curve
-outside-accepted : (c : Curve) (box : Rect) (depth budget : ℕ) → answered c box depth budget .number ≡ outside → Accepted c
-outside-accepted c box depth budget =
-    by-answer c box depth budget (λ v. reported v .number ≡ outside → Accepted c) (λ e. absurd (eqb-false 0 2 refl e)) (λ f e. f .accepted)
+-- an answer Outside is of a walk that is not refused
+outside-facts : (c : Curve) (box : Rect) (depth budget : ℕ) → answered c box depth budget .number ≡ outside → Facts c box depth budget
+outside-facts c box depth budget =
+    by-answer c box depth budget (λ v. reported v .number ≡ outside → Facts c box depth budget) (λ e. absurd (eqb-false 0 2 refl e)) (λ f e. f)
 
 pub outside-means : OutsideMeans
 outside-means c box depth budget e o within-rectangles t b l =
     let found = outside-names c box depth budget e in
+    let f = outside-facts c box depth budget e in
     let d = answered c box depth budget .depth in
     let i = answered c box depth budget .index in
     apart-clash o t (bounded (pieceAt c d i) .rect) box (found .apart)
-    (load-in-span c d i (pieceAt c d i) (laid c (outside-accepted c box depth budget e) d i (found .numbered)) o within-rectangles t
+    (load-in-span c d i (pieceAt c d i) (laid c depth (f .effort .room) (f .accepted) d i (found .limited) (found .numbered)) o within-rectangles t
     (point-along d i (rat t) (subst (λ x. x ≤ℚ rat t) (parameter-dyadic d i) (≤ℚ-of (b .from))) (subst (λ x. rat t ≤ℚ x) (parameter-dyadic d (i + 1)) (≤ℚ-of (b .to)))))
     l

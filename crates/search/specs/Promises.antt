@@ -9,8 +9,9 @@ use Rattle.rational.specs.Fraction.{Frac, whole, _≤ᶠ_, _<ᶠ_}
 use Rattle.curve.specs.declared.Rect.{Rect}
 use Rattle.curve.specs.declared.Curve.{Curve}
 use Rattle.curve.specs.Rect.{Coordinate, side}
-use Rattle.curve.specs.Curve.{SameCurve}
-use Rattle.curve.specs.Calls.{bounded}
+use Rattle.curve.specs.Curve.{SameButSum, SameCurve}
+use Rattle.curve.specs.Refusals.{none}
+use Rattle.curve.specs.Calls.{bounded, subdivided}
 use Rattle.ledger.specs.Ordinary.{Ordinary, InsideOf, loadAt}
 use Rattle.ledger.specs.Ledger.{parameter}
 use Rattle.search.specs.Limits.{maxBudget}
@@ -26,6 +27,22 @@ answered c box depth budget = reported (searched c box depth budget .verdict)
 -- equal curves get equal answers: nothing past the degree is read
 abbrev pub PastUnread : Type 0
 PastUnread = (c e : Curve) (box : Rect) (depth budget : ℕ) → SameCurve c e → searched c box depth budget ≡ searched e box depth budget
+
+-- ---- the sum of steps
+
+-- the curve with another sum
+abbrev pub withSum : ℕ → Curve → Curve
+withSum s c = record { degree = c .degree; sum = s; points = c .points }
+
+-- no cut down to the depth limit is refused, and its pieces and its answer are those of the same curve with the sum 0
+pub record SumUnmet (c : Curve) (box : Rect) (depth budget : ℕ) : Type 0 where
+  pub cuts : (d index : ℕ) → d < depth → subdivided (pieceAt c d index) 1 2 .refusal ≡ none
+  pub pieces : (d index : ℕ) → d ≤ depth → SameButSum (pieceAt c d index) (pieceAt (withSum 0 c) d index)
+  pub answer : searched c box depth budget ≡ searched (withSum 0 c) box depth budget
+
+-- so a walk that is not refused meets no 17 inside
+abbrev pub NoSumInside : Type 0
+NoSumInside = (c : Curve) (box : Rect) (depth budget : ℕ) → searched c box depth budget .refusal ≡ none → SumUnmet c box depth budget
 
 -- ---- the count
 

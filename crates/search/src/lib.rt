@@ -1,7 +1,8 @@
 // The walk over a box: whether every load of a curve lies in the box, found by cutting the curve into pieces. The box is called `limits`; its low sides lie inside it, its high sides outside.
 // The call takes any record and any numbers, answers a refusal for bad input, and equals its definition in specs/Search.antt.
 ghost use mathlib.Core.Path.{_≡_};
-ghost use Rattle.search.specs.Search.{effortRefusal, boxRefusal, searchRefusal, searched};
+ghost use Rattle.curve.specs.Refusals.{sumRefusal};
+ghost use Rattle.search.specs.Search.{effortRefusal, boxRefusal, deepestSum, searchRefusal, searched};
 ghost use Rattle.search.specs.Walk.{walked};
 ghost use Rattle.search.specs.Inner.{Due};
 use curve::Curve;
@@ -11,6 +12,7 @@ use curve::curve_refusal;
 use curve::first_of;
 use curve::is_from_one_to;
 use curve::refused_unless;
+use curve::sum_refusal;
 
 mod boxes;
 mod inside;
@@ -52,30 +54,37 @@ pub struct SearchAnswer {
     pub verdict: Verdict,
 }
 
-// Refusals 8 and 9.
-pub fn effort_refusal(depth: u32, budget: u32) -> Refusal
-    ensures { λ r. ⌜ r ≡ effortRefusal depth budget ⌝ }
+// Refusal 17: the deepest pieces' sum of steps, whatever degree and depth are.
+fn deepest_refusal(c: Curve, depth: u32) -> Refusal
+    ensures { λ r. ⌜ r ≡ sumRefusal (deepestSum c depth) ⌝ }
+{
+    sum_refusal(c.sum as u64 + depth as u64 * c.degree as u64)
+}
+
+// Refusals 8, 9 and 17.
+pub fn effort_refusal(c: Curve, depth: u32, budget: u32) -> Refusal
+    ensures { λ r. ⌜ r ≡ effortRefusal c depth budget ⌝ }
 {
     let first = refused_unless(depth <= MAX_DEPTH, 8, 0);
     let second = refused_unless(is_from_one_to(budget, MAX_BUDGET), 9, 0);
-    first_of(first, second)
+    first_of(first, first_of(second, deepest_refusal(c, depth)))
 }
 
-// Refusals 7 to 9.
-fn box_refusal(limits: Rect, depth: u32, budget: u32) -> Refusal
-    ensures { λ r. ⌜ r ≡ boxRefusal limits depth budget ⌝ }
+// Refusals 7 to 9 and 17.
+fn box_refusal(c: Curve, limits: Rect, depth: u32, budget: u32) -> Refusal
+    ensures { λ r. ⌜ r ≡ boxRefusal c limits depth budget ⌝ }
 {
     first_of(
         refused_unless(is_box(limits), 7, 0),
-        effort_refusal(depth, budget),
+        effort_refusal(c, depth, budget),
     )
 }
 
-// Refusals 1 to 3, then 7 to 9.
+// Refusals 1 to 3, then 7 to 9 and 17.
 fn search_refusal(c: Curve, limits: Rect, depth: u32, budget: u32) -> Refusal
     ensures { λ r. ⌜ r ≡ searchRefusal c limits depth budget ⌝ }
 {
-    first_of(curve_refusal(c), box_refusal(limits, depth, budget))
+    first_of(curve_refusal(c), box_refusal(c, limits, depth, budget))
 }
 
 // The verdict once this piece is walked, with `below` depths below it, after the verdict on the pieces before it.
@@ -115,7 +124,7 @@ fn walk(
     }
 }
 
-// Whether the curve stays in the box, looking at no more than budget pieces, none deeper than depth; refusals 1 to 3 and 7 to 9.
+// Whether the curve stays in the box, looking at no more than budget pieces, none deeper than depth; refusals 1 to 3, 7 to 9 and 17.
 pub fn search(c: Curve, limits: Rect, depth: u32, budget: u32) -> SearchAnswer
     ensures { λ r. ⌜ r ≡ searched c limits depth budget ⌝ }
 {

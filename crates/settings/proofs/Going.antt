@@ -21,7 +21,7 @@ use Rattle.curve.proofs.Tests.{or-split, or-none}
 use Rattle.curve.proofs.Accepted.{number-accepted}
 use Rattle.search.specs.Box.{isBox}
 use Rattle.search.specs.Search.{effortRefusal, searchRefusal}
-use Rattle.search.proofs.Accepted.{effort-holds, effort-settled, facts-none}
+use Rattle.search.proofs.Accepted.{Effort, effort-holds, effort-settled, facts-none}
 use Rattle.settings.specs.declared.Setting.{Setting}
 use Rattle.settings.specs.declared.Choice.{Choice}
 use Rattle.settings.specs.declared.Choice.the-variants.{Refused, Fits, NoneFits}
@@ -81,9 +81,9 @@ module _ (c : Curve) (ss : List Setting) (depth budget : ℕ) where
 
   refused-first : eqb (first .number) 0 ≡ false → settingsRefusal c ss depth budget ≡ first
   unfolding settingsRefusal
-  refused-first e = sym (or-assoc (listRefusal count) (curveRefusal c) _) ∙ ap (λ (b : Bool). cond b (boxesRefusal 0 ss orElse effortRefusal depth budget) first) e
+  refused-first e = sym (or-assoc (listRefusal count) (curveRefusal c) _) ∙ ap (λ (b : Bool). cond b (boxesRefusal 0 ss orElse effortRefusal c depth budget) first) e
 
-  past-first : first ≡ none → settingsRefusal c ss depth budget ≡ (boxesRefusal 0 ss orElse effortRefusal depth budget)
+  past-first : first ≡ none → settingsRefusal c ss depth budget ≡ (boxesRefusal 0 ss orElse effortRefusal c depth budget)
   unfolding settingsRefusal
   past-first h = sym (or-assoc (listRefusal count) (curveRefusal c) _) ∙ or-none first _ h
 
@@ -140,44 +140,44 @@ module _ (c : Curve) (ss : List Setting) (depth budget : ℕ) where
     first-here u = u .fitting refl .1 ∙ ap (firstOf test at) (rest (u .within)) ∙ ap (λ (k : ℕ). cond (test s) (Fits at (s .number)) (firstOf test k (drop (at + 1) ss))) (sym (add-one at))
 
     -- a check: the box is bad, or the next record is due, or it was the last one
-    checked-after : Due false at → After (count + (count - at)) (checked span count depth budget at s)
+    checked-after : Due false at → After (count + (count - at)) (checked c span count depth budget at s)
     unfolding boxesRefusal
     checked-after u = by-test (isBox (s .limits)) (λ good. by-test (ltb (at + 1) count) (onward good) (begin good)) bad
       where
         within : at < count
         within = u .within
 
-        bad : isBox (s .limits) ≡ false → After (count + (count - at)) (checked span count depth budget at s)
+        bad : isBox (s .limits) ≡ false → After (count + (count - at)) (checked c span count depth budget at s)
         bad h =
             let boxes : boxesRefusal 0 ss ≡ refusal 7 at = boxes-here u ∙ ap (λ (b : Bool). cond b (boxesRefusal (at + 1) (drop (at + 1) ss)) (refusal 7 at)) h in
-            subst (After (count + (count - at))) (sym (checked-bad span count depth budget at s h)) (record {
-              going = going-ended _ (refused-with (refusal 7 at) (past-first (u .accepted) ∙ ap (λ (r : Refusal). r orElse effortRefusal depth budget) boxes) refl);
+            subst (After (count + (count - at))) (sym (checked-bad c span count depth budget at s h)) (record {
+              going = going-ended _ (refused-with (refusal 7 at) (past-first (u .accepted) ∙ ap (λ (r : Refusal). r orElse effortRefusal c depth budget) boxes) refl);
               fewer = omega (arith, within);
             })
 
         good-here : isBox (s .limits) ≡ true → boxesRefusal 0 ss ≡ boxesRefusal (at + 1) (drop (at + 1) ss)
         good-here h = boxes-here u ∙ ap (λ (b : Bool). cond b (boxesRefusal (at + 1) (drop (at + 1) ss)) (refusal 7 at)) h
 
-        onward : isBox (s .limits) ≡ true → ltb (at + 1) count ≡ true → After (count + (count - at)) (checked span count depth budget at s)
+        onward : isBox (s .limits) ≡ true → ltb (at + 1) count ≡ true → After (count + (count - at)) (checked c span count depth budget at s)
         onward h l =
             let more : at + 1 < count = ltb-true (at + 1) count l in
-            subst (After (count + (count - at))) (sym (checked-next span count depth budget at s h l)) (record {
+            subst (After (count + (count - at))) (sym (checked-next c span count depth budget at s h l)) (record {
               going = going-due false (at + 1) (record { within = more; few = u .few; accepted = u .accepted; checking = λ _. good-here h; fitting = λ e. absurd (subst T (sym e) tt) });
               fewer = omega (arith, within);
             })
 
-        -- every box is good: 8 and 9 are left
-        begin : isBox (s .limits) ≡ true → ltb (at + 1) count ≡ false → After (count + (count - at)) (checked span count depth budget at s)
+        -- every box is good: 8, 9 and 17 are left
+        begin : isBox (s .limits) ≡ true → ltb (at + 1) count ≡ false → After (count + (count - at)) (checked c span count depth budget at s)
         begin h l =
             let boxes : boxesRefusal 0 ss ≡ none = good-here h ∙ ap (boxesRefusal (at + 1)) (nothing-left within l) in
-            let all : settingsRefusal c ss depth budget ≡ effortRefusal depth budget = past-first (u .accepted) ∙ or-none (boxesRefusal 0 ss) (effortRefusal depth budget) boxes in
-            subst (After (count + (count - at))) (sym (checked-last span count depth budget at s h l))
-            (started-by (After (count + (count - at))) true (effortRefusal depth budget)
+            let all : settingsRefusal c ss depth budget ≡ effortRefusal c depth budget = past-first (u .accepted) ∙ or-none (boxesRefusal 0 ss) (effortRefusal c depth budget) boxes in
+            subst (After (count + (count - at))) (sym (checked-last c span count depth budget at s h l))
+            (started-by (After (count + (count - at))) true (effortRefusal c depth budget)
             (λ z. record {
-              going = going-due true 0 (record { within = omega (arith, within); few = u .few; accepted = u .accepted; checking = λ e. absurd (subst T e tt); fitting = λ _. (all ∙ effort-settled depth budget z, refl) });
+              going = going-due true 0 (record { within = omega (arith, within); few = u .few; accepted = u .accepted; checking = λ e. absurd (subst T e tt); fitting = λ _. (all ∙ effort-settled c depth budget z, refl) });
               fewer = omega (arith, within);
             })
-            (λ e. record { going = going-ended _ (refused-with (effortRefusal depth budget) all e); fewer = omega (arith, within) }))
+            (λ e. record { going = going-ended _ (refused-with (effortRefusal c depth budget) all e); fewer = omega (arith, within) }))
 
     -- a walk: the record is chosen, or the next one is due, or none fits
     tried-after : Due true at → After (count - at) (tried c span count depth budget at s)
@@ -220,24 +220,31 @@ module _ (c : Curve) (ss : List Setting) (depth budget : ℕ) where
       u : Due (p .trying) (p .at)
       u = g .due e
 
-      try : p .trying ≡ true → After (cond (p .trying) (count - p .at) (count + (count - p .at))) (cond (p .trying) (tried c span count depth budget (p .at) s) (checked span count depth budget (p .at) s))
+      try : p .trying ≡ true → After (cond (p .trying) (count - p .at) (count + (count - p .at))) (cond (p .trying) (tried c span count depth budget (p .at) s) (checked c span count depth budget (p .at) s))
       try h = rw h (tried-after d (p .at) (subst (λ (b : Bool). Due b (p .at)) h u))
 
-      check : p .trying ≡ false → After (cond (p .trying) (count - p .at) (count + (count - p .at))) (cond (p .trying) (tried c span count depth budget (p .at) s) (checked span count depth budget (p .at) s))
+      check : p .trying ≡ false → After (cond (p .trying) (count - p .at) (count + (count - p .at))) (cond (p .trying) (tried c span count depth budget (p .at) s) (checked c span count depth budget (p .at) s))
       check h = rw h (checked-after d (p .at) (subst (λ (b : Bool). Due b (p .at)) h u))
 
   -- ---- what is asked of the record that is due
 
-  -- of a list that is not refused no walk would be
-  pub walk-accepted : settingsRefusal c ss depth budget ≡ none → (d : Setting) (k : ℕ) → k < count → searchRefusal c (getD ss k d .limits) depth budget ≡ none
-  unfolding settingsRefusal
-  walk-accepted h d k l =
-      let (list-zero, past-list) = or-split (listRefusal count) _ (ap (λ (r : Refusal). r .number) h) in
-      let (curve-zero, past-curve) = or-split (curveRefusal c) _ past-list in
-      let (boxes-zero, effort-zero) = or-split (boxesRefusal 0 ss) _ past-curve in
-      let (shallow, some, few) = effort-holds depth budget effort-zero in
-      facts-none c (getD ss k d .limits) depth budget
-      (record { accepted = number-accepted c curve-zero; sides = boxes-good 0 ss boxes-zero d k l; shallow = shallow; some = some; few = few })
+  -- of a list that is not refused depth, budget and the curve's sum are not, and no walk would be
+  module _ (h : settingsRefusal c ss depth budget ≡ none) where
+    parts : (curveRefusal c .number ≡ 0) × (boxesRefusal 0 ss .number ≡ 0) × (effortRefusal c depth budget .number ≡ 0)
+    unfolding settingsRefusal
+    parts =
+        let (list-zero, past-list) = or-split (listRefusal count) _ (ap (λ (r : Refusal). r .number) h) in
+        let (curve-zero, past-curve) = or-split (curveRefusal c) _ past-list in
+        let (boxes-zero, effort-zero) = or-split (boxesRefusal 0 ss) _ past-curve in
+        (curve-zero, boxes-zero, effort-zero)
+
+    pub effort-accepted : Effort c depth budget
+    effort-accepted = effort-holds c depth budget (parts .2)
+
+    pub walk-accepted : (d : Setting) (k : ℕ) → k < count → searchRefusal c (getD ss k d .limits) depth budget ≡ none
+    walk-accepted d k l =
+        facts-none c (getD ss k d .limits) depth budget
+        (record { accepted = number-accepted c (parts .0); sides = boxes-good 0 ss (parts .1) d k l; effort = effort-accepted })
 
   pub due-now : (d : Setting) (p : Progress) → Going p → p .due ≡ true → DueNow c depth budget p (getD ss (p .at) d)
   due-now d p g e =

@@ -16,9 +16,13 @@ use Rattle.curve.proofs.Refused.{by-number}
 use Rattle.search.specs.declared.SearchAnswer.{SearchAnswer}
 use Rattle.search.specs.Verdict.{inside}
 use Rattle.search.specs.Verdict as Verdict
-use Rattle.search.specs.Search.{effortRefusal, endsInside}
+use Rattle.search.specs.Search.{endsInside}
 use Rattle.search.proofs.Meaning as Meaning
+use Rattle.search.specs.Promises.{withSum}
+use Rattle.search.proofs.Accepted.{searched-refusal}
 use Rattle.search.proofs.PastUnread as Walks
+use Rattle.search.proofs.SumUnmet as Walk
+use Rattle.search.proofs.SumUnmet.{same-curve-unsummed, same-effort-unsummed, searched-unsummed}
 use Rattle.settings.specs.declared.Setting.{Setting}
 use Rattle.settings.specs.declared.Choice.{Choice}
 use Rattle.settings.specs.declared.Choice.the-variants.{Refused}
@@ -26,9 +30,10 @@ use Rattle.settings.specs.declared.ChoiceAnswer.{ChoiceAnswer}
 use Rattle.settings.specs.Choice.{Report, reported, fitting}
 use Rattle.settings.specs.Settings.{listRefusal, boxesRefusal, settingsRefusal, fits, firstOf, chosen}
 use Rattle.settings.specs.Inner.{answer}
-use Rattle.settings.specs.Promises.{recordAt, EndsInside, FirstFitting, First, NoneExactly, SafeToHold, LaterUnread, PastUnread}
+use Rattle.settings.specs.Promises.{recordAt, EndsInside, FirstFitting, First, NoneExactly, SafeToHold, LaterUnread, PastUnread, NoSumInside}
 use Rattle.settings.proofs.Answers.{chosen-accepted, chosen-refused, chosen-refusal}
 use Rattle.settings.proofs.Refused.{settings-settled}
+use Rattle.settings.proofs.Going.{effort-accepted, walk-accepted}
 use Rattle.settings.proofs.Searching.{Found, found, none-found, nothing-found, same-found}
 use Rattle.settings.proofs.Searching as Searching
 
@@ -102,5 +107,20 @@ pub past-unread : PastUnread
 unfolding chosen settingsRefusal fits endsInside
 past-unread c e ss depth budget same =
     ap₂ (λ (r : Refusal) (x : Choice). cond (eqb (r .number) 0) (answer x r) (answer Refused r))
-    (ap (λ (r : Refusal). listRefusal (length ss) orElse r orElse boxesRefusal 0 ss orElse effortRefusal depth budget) (Walks.same-curve-refusal c e same))
+    (ap₂ (λ (r x : Refusal). listRefusal (length ss) orElse r orElse boxesRefusal 0 ss orElse x) (Walks.same-curve-refusal c e (same .rest)) (Walks.same-effort c e same depth budget))
     (same-found _ _ (λ s. ap (λ (a : SearchAnswer). eqb (Verdict.reported (a .verdict) .number) inside) (Walks.past-unread c e (s .limits) depth budget same)) 0 ss)
+
+pub no-sum-inside : NoSumInside
+unfolding fits endsInside settingsRefusal
+no-sum-inside c ss depth budget h =
+    let accepted = sym (chosen-refusal c ss depth budget) ∙ h in
+    let effort = effort-accepted c ss depth budget accepted in
+    let refusals : settingsRefusal c ss depth budget ≡ settingsRefusal (withSum 0 c) ss depth budget =
+    ap₂ (λ (r x : Refusal). listRefusal (length ss) orElse r orElse boxesRefusal 0 ss orElse x) (same-curve-unsummed c) (same-effort-unsummed c depth budget effort) in
+    record {
+      walks = λ k l. Walk.no-sum-inside c (recordAt ss k .limits) depth budget (searched-refusal c (recordAt ss k .limits) depth budget ∙ walk-accepted c ss depth budget accepted _ k l);
+      answer =
+          chosen-accepted c ss depth budget accepted
+          ∙ ap (λ (x : Choice). answer x none) (same-found _ _ (λ s. ap (λ (a : SearchAnswer). eqb (Verdict.reported (a .verdict) .number) inside) (searched-unsummed c depth budget effort (s .limits))) 0 ss)
+          ∙ sym (chosen-accepted (withSum 0 c) ss depth budget (sym refusals ∙ accepted));
+    }

@@ -53,4 +53,4 @@ module _ (c : Curve) (ss : List Setting) (depth budget : ℕ) where
       let (curve-zero, past-curve) = or-split (curveRefusal c) _ past-list in
       let (boxes-zero, effort-zero) = or-split (boxesRefusal 0 ss) _ past-curve in
       or-none (listRefusal (length ss)) _ (list-holds (length ss) list-zero .0) ∙ or-none (curveRefusal c) _ (number-accepted c curve-zero)
-      ∙ or-none (boxesRefusal 0 ss) _ (boxes-settled 0 ss boxes-zero) ∙ effort-settled depth budget effort-zero
+      ∙ or-none (boxesRefusal 0 ss) _ (boxes-settled 0 ss boxes-zero) ∙ effort-settled c depth budget effort-zero

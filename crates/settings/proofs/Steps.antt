@@ -14,20 +14,19 @@ use Rattle.settings.specs.declared.Choice.the-variants.{Refused, Fits, N
 use Rattle.settings.specs.Settings.{fits}
 use Rattle.settings.specs.Inner.{answer, dueAt, ended, startedUnless, checked, tried}
 
-module _ (span : Rect) (count depth budget at : ℕ) (s : Setting) where
-  pub checked-bad : isBox (s .limits) ≡ false → checked span count depth budget at s ≡ ended (answer Refused (refusal 7 at))
+module _ (c : Curve) (span : Rect) (count depth budget at : ℕ) (s : Setting) where
+  pub checked-bad : isBox (s .limits) ≡ false → checked c span count depth budget at s ≡ ended (answer Refused (refusal 7 at))
   unfolding checked
   checked-bad h = rw h
 
-  pub checked-next : isBox (s .limits) ≡ true → ltb (at + 1) count ≡ true → checked span count depth budget at s ≡ dueAt span false (at + 1)
+  pub checked-next : isBox (s .limits) ≡ true → ltb (at + 1) count ≡ true → checked c span count depth budget at s ≡ dueAt span false (at + 1)
   unfolding checked
   checked-next h l = rw (h, l)
 
-  pub checked-last : isBox (s .limits) ≡ true → ltb (at + 1) count ≡ false → checked span count depth budget at s ≡ startedUnless span true (effortRefusal depth budget)
+  pub checked-last : isBox (s .limits) ≡ true → ltb (at + 1) count ≡ false → checked c span count depth budget at s ≡ startedUnless span true (effortRefusal c depth budget)
   unfolding checked
   checked-last h l = rw (h, l)
 
-module _ (c : Curve) (span : Rect) (count depth budget at : ℕ) (s : Setting) where
   pub tried-fits : fits c depth budget s ≡ true → tried c span count depth budget at s ≡ ended (answer (Fits at (s .number)) none)
   unfolding tried
   tried-fits h = rw h

@@ -39,9 +39,9 @@ unfoldable pub begun : Curve → ℕ → Progress
 begun c count = startedUnless (bounded c .rect) false (listRefusal count orElse curveRefusal c)
 
 -- after the check of a record's box; after the last one the records are tried
-unfoldable pub checked : Rect → ℕ → ℕ → ℕ → ℕ → Setting → Progress
-checked span count depth budget at s =
-    cond (isBox (s .limits)) (cond (ltb (at + 1) count) (dueAt span false (at + 1)) (startedUnless span true (effortRefusal depth budget)))
+unfoldable pub checked : Curve → Rect → ℕ → ℕ → ℕ → ℕ → Setting → Progress
+checked c span count depth budget at s =
+    cond (isBox (s .limits)) (cond (ltb (at + 1) count) (dueAt span false (at + 1)) (startedUnless span true (effortRefusal c depth budget)))
     (ended (answer Refused (refusal 7 at)))
 
 -- after the walk of a record
@@ -52,7 +52,7 @@ tried c span count depth budget at s =
 
 -- after the record that was due
 unfoldable pub next : Curve → ℕ → ℕ → ℕ → Progress → Setting → Progress
-next c count depth budget p s = cond (p .trying) (tried c (p .span) count depth budget (p .at) s) (checked (p .span) count depth budget (p .at) s)
+next c count depth budget p s = cond (p .trying) (tried c (p .span) count depth budget (p .at) s) (checked c (p .span) count depth budget (p .at) s)
 
 -- ---- what is asked of a record that is due
 

@@ -13,7 +13,7 @@ use Rattle.curve.specs.Refusals.{none}
 use Rattle.ledger.specs.Ordinary.{Ordinary, InsideOf}
 use Rattle.search.specs.Verdict.{inside}
 use Rattle.search.specs.Promises as Search
-use Rattle.search.specs.Promises.{LoadIn, Between}
+use Rattle.search.specs.Promises.{LoadIn, Between, withSum, SumUnmet}
 use Rattle.settings.specs.declared.Setting.{Setting}
 use Rattle.settings.specs.Choice.{Report, reported, fitting, noneFitting}
 use Rattle.settings.specs.Settings.{chosen}
@@ -69,3 +69,12 @@ LaterUnread =
 -- equal curves get equal answers: nothing past the degree is read
 abbrev pub PastUnread : Type 0
 PastUnread = (c e : Curve) (settings : List Setting) (depth budget : ℕ) → SameCurve c e → chosen c settings depth budget ≡ chosen e settings depth budget
+
+-- every record's walk meets no 17, and the answer is that of the same curve with the sum 0
+pub record SumUnmetByAll (c : Curve) (settings : List Setting) (depth budget : ℕ) : Type 0 where
+  pub walks : (k : ℕ) → k < length settings → SumUnmet c (recordAt settings k .limits) depth budget
+  pub answer : chosen c settings depth budget ≡ chosen (withSum 0 c) settings depth budget
+
+-- so a list that is not refused meets no 17 inside
+abbrev pub NoSumInside : Type 0
+NoSumInside = (c : Curve) (settings : List Setting) (depth budget : ℕ) → chosen c settings depth budget .refusal ≡ none → SumUnmetByAll c settings depth budget

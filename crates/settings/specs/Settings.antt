@@ -27,10 +27,10 @@ unfoldable pub boxesRefusal : ℕ → List Setting → Refusal
 boxesRefusal index [] = none
 boxesRefusal index (s ∷ rest) = cond (isBox (s .limits)) (boxesRefusal (suc index) rest) (refusal 7 index)
 
--- 16, then the curve's 1 to 3, then 7 over the whole list, then 8 and 9
+-- 16, then the curve's 1 to 3, then 7 over the whole list, then 8, 9 and 17
 unfoldable pub settingsRefusal : Curve → List Setting → ℕ → ℕ → Refusal
 settingsRefusal c settings depth budget =
-    listRefusal (length settings) orElse curveRefusal c orElse boxesRefusal 0 settings orElse effortRefusal depth budget
+    listRefusal (length settings) orElse curveRefusal c orElse boxesRefusal 0 settings orElse effortRefusal c depth budget
 
 -- ---- the search
 

@@ -102,10 +102,18 @@ pub fn begun(c: Curve, count: usize) -> Progress
     started_unless(bounds.rect, false, refusal)
 }
 
-// After the check of a record's box, refusal 7; after the last one, refusals 8 and 9 or the first walk.
-fn checked(span: Rect, count: usize, depth: u32, budget: u32, at: usize, s: Setting) -> Progress
+// After the check of a record's box, refusal 7; after the last one, refusals 8, 9 and 17 or the first walk.
+fn checked(
+    c: Curve,
+    span: Rect,
+    count: usize,
+    depth: u32,
+    budget: u32,
+    at: usize,
+    s: Setting,
+) -> Progress
     requires { ⌜ at < maxSettings ⌝ }
-    ensures { λ r. ⌜ r ≡ checked span count depth budget at s ⌝ }
+    ensures { λ r. ⌜ r ≡ checked c span count depth budget at s ⌝ }
 {
     if !is_box(s.limits) {
         return ended(ChoiceAnswer {
@@ -119,7 +127,7 @@ fn checked(span: Rect, count: usize, depth: u32, budget: u32, at: usize, s: Sett
     if at + 1 < count {
         return due_at(span, false, at + 1);
     }
-    started_unless(span, true, effort_refusal(depth, budget))
+    started_unless(span, true, effort_refusal(c, depth, budget))
 }
 
 // Whether a record's walk ends Inside. The first look at the whole curve, whose span is known, often tells.
@@ -186,5 +194,5 @@ pub fn next(
     if progress.trying {
         return tried(c, span, count, depth, budget, at, s);
     }
-    checked(span, count, depth, budget, at, s)
+    checked(c, span, count, depth, budget, at, s)
 }

@@ -20,16 +20,16 @@ use Rattle.curve.specs.declared.Evaluation.{Evaluation}
 use Rattle.curve.specs.declared.Rect.{Rect}
 use Rattle.curve.specs.declared.Refusal.{Refusal}
 use Rattle.curve.specs.Rect.{Coordinate, side, Inside, zeroRect}
-use Rattle.curve.specs.Curve.{point, loadOf, tableExact, SameCurve}
+use Rattle.curve.specs.Curve.{point, loadOf, tableExact, SameButSum}
 use Rattle.curve.specs.Refusals.{none, _orElse_, parameterRefusal, AcceptedAt}
 use Rattle.curve.proofs.Accepted.{parameter-facts}
 use Rattle.curve.proofs.Answers.{evaluation, noEvaluation, evaluated-accepted}
-use Rattle.curve.proofs.EndPoints.{end-points}
-use Rattle.curve.proofs.Flags as Flags
-use Rattle.curve.proofs.Flags.{lit-ends, table-lit}
-use Rattle.curve.proofs.LoadOhms.{Exactly, rect-ohms}
+use Rattle.curve_promises.proofs.EndPoints.{end-points}
+use Rattle.curve_promises.proofs.Flags as Flags
+use Rattle.curve_promises.proofs.Flags.{lit-ends, table-lit}
+use Rattle.curve_promises.proofs.LoadOhms.{Exactly, rect-ohms}
 use Rattle.curve.proofs.Loads.{zero-ohms}
-use Rattle.curve.proofs.PastUnread.{refusals}
+use Rattle.curve_promises.proofs.PastUnread.{refusals}
 use Rattle.curve.proofs.Points.{sides, side-value}
 use Rattle.curve.proofs.Ranges.{zero-held}
 use Rattle.curve.proofs.RectSides.{same-sides}
@@ -127,7 +127,7 @@ load-ohms c j x r = by-number (sixteenthsRefusal c j .number) accepted refused
         (subst (λ o. Exactly x r zeroRect o) zero-ohms (rect-ohms zeroRect zero-held x r))
 
 -- the sums read the control points as far as the degree
-module _ (c e : Curve) (same : SameCurve c e) (j : ℕ) where
+module _ (c e : Curve) (same : SameButSum c e) (j : ℕ) where
   sum-same : (x : Coordinate) (r : Rounding) → sumOf c j x r ≡ sumOf e j x r
   unfolding sumOf wholeSum
   sum-same x r =

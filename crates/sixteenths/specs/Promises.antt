@@ -9,10 +9,10 @@ use Rattle.rational.specs.Rounding.{Rounding}
 use Rattle.curve.specs.declared.Curve.{Curve}
 use Rattle.curve.specs.Limits.{stepsPerOhm}
 use Rattle.curve.specs.Rect.{Coordinate, side, Inside}
-use Rattle.curve.specs.Curve.{point, SameCurve}
+use Rattle.curve.specs.Curve.{point, SameButSum}
 use Rattle.curve.specs.Refusals.{Accepted}
 use Rattle.curve.specs.Calls.{evaluated}
-use Rattle.curve.specs.Promises.{ohmsAt, negative}
+use Rattle.curve_promises.specs.Promises.{ohmsAt, negative}
 use Rattle.sixteenths.specs.Weights.{sixteenths}
 use Rattle.sixteenths.specs.Sixteenths.{evaluatedSixteenths}
 
@@ -37,9 +37,9 @@ SummedEnds =
 abbrev pub LitAccepted : Type 0
 LitAccepted = (c : Curve) (j : ℕ) → evaluatedSixteenths c j .exact ≡ true → Accepted c × (j ≤ sixteenths)
 
--- equal curves give equal answers: nothing past the degree is read
+-- equal curves give equal answers: nothing past the degree is read, and no sum of steps
 abbrev pub PastUnread : Type 0
-PastUnread = (c e : Curve) → SameCurve c e → (j : ℕ) → evaluatedSixteenths c j ≡ evaluatedSixteenths e j
+PastUnread = (c e : Curve) → SameButSum c e → (j : ℕ) → evaluatedSixteenths c j ≡ evaluatedSixteenths e j
 
 -- its ohms are its load's sides / 1,024; of a refused one both are zero
 abbrev pub LoadOhms : Type 0

@@ -1,16 +1,17 @@
-//! The calls that are timed, each on the same input and with buffers of its own, and how the sides and the
+//! The calls that are timed, each on the same input and with buffers of its own, and how the numbers and the
 //! flag of its result are read off its buffers. Only the calls are timed. The limit has no result to read.
 
 use crate::lists::{BUDGET, DEPTH};
 use crate::{plain, plain_enclose, plain_settings, plain_sixteenths};
 use jusqani::{raw, Setting, CHOICE_LENGTH, CURVE_LENGTH, MAX_DEGREE, PLACES, RECT_LENGTH};
 
-/// The sides of a curve of the highest degree, and of the two pieces of one.
+/// The sides of a curve of the highest degree.
 pub const CURVE_SIDES: usize = RECT_LENGTH * PLACES;
-pub const PIECES_SIDES: usize = 2 * CURVE_SIDES;
 
-/// What both sides are given to evaluate or subdivide: a curve of the highest degree and a parameter.
+/// What both sides are given to evaluate or subdivide: a curve of the highest degree and a parameter. The sum
+/// of steps is for subdivide alone.
 pub struct Input {
+    pub sum: u16,
     pub sides: [i32; CURVE_SIDES],
     pub num: u32,
     pub den: u32,
@@ -25,18 +26,22 @@ pub struct AtSixteenth {
 
 /// What both sides are given to choose a setting: a curve of the highest degree and a list.
 pub struct Listed {
+    pub sum: u16,
     pub sides: [i32; CURVE_SIDES],
     pub settings: Vec<Setting>,
 }
+
+/// The two pieces of a curve of the highest degree, each its degree, its sum, then its sides.
+pub type Pieces = [[i32; CURVE_LENGTH]; 2];
 
 /// What both sides are given to enclose: a resistance and a reactance in ohms, with or without a spread.
 pub type Measured<const NUMBERS: usize> = [f32; NUMBERS];
 pub const PLAIN_LOAD: usize = 2;
 pub const WITH_SPREAD: usize = 3;
 
-/// The buffers for the results: ours are as include/jusqani.h has them, plain Rust's are sides, and at a
-/// sixteenth ohms too; a choice is alike on both sides. Each has a flag of its own, which tells whether the result is exact, or what was
-/// found. The limit stores where plain Rust does.
+/// The buffers for the results, as include/jusqani.h has them; plain Rust has ohms at a sixteenth alone. Each
+/// side has a flag of its own, which tells whether the result is exact, or what was found. The limit stores
+/// where plain Rust does.
 pub struct Buffers {
     load: [i32; RECT_LENGTH],
     ohms: [f32; RECT_LENGTH],
@@ -44,8 +49,9 @@ pub struct Buffers {
     right: [i32; CURVE_LENGTH],
     choice: [u32; CHOICE_LENGTH],
     flag: u32,
-    plain: [i32; PIECES_SIDES],
+    plain_load: [i32; RECT_LENGTH],
     plain_ohms: [f32; RECT_LENGTH],
+    plain_pieces: Pieces,
     plain_choice: [u32; CHOICE_LENGTH],
     plain_flag: u32,
 }
@@ -61,8 +67,9 @@ impl Buffers {
         right: [0; CURVE_LENGTH],
         choice: [0; CHOICE_LENGTH],
         flag: NO_FLAG,
-        plain: [0; PIECES_SIDES],
+        plain_load: [0; RECT_LENGTH],
         plain_ohms: [0.0; RECT_LENGTH],
+        plain_pieces: [[0; CURVE_LENGTH]; 2],
         plain_choice: [0; CHOICE_LENGTH],
         plain_flag: NO_FLAG,
     };
@@ -71,7 +78,7 @@ impl Buffers {
 /// What is timed; it answers 0 where it is not refused.
 pub type Run<I> = fn(&I, &mut Buffers) -> u64;
 
-/// A call, and the sides and the flag that it left.
+/// A call, and the numbers and the flag that it left.
 pub struct Call<I> {
     pub run: Run<I>,
     pub result: fn(&Buffers) -> (Vec<i32>, u32),
@@ -86,20 +93,23 @@ pub struct Operation<I> {
 
 pub const EVALUATE: Operation<Input> = Operation {
     ours: Call {
-        run: |Input { sides, num, den }, out| {
+        run: |input, out| {
+            let (num, den) = (input.num, input.den);
             let (load, ohms, exact) = (&mut out.load, &mut out.ohms, &mut out.flag);
-            raw::evaluate(MAX_DEGREE, sides, *num, *den, load, ohms, exact)
+            raw::evaluate(MAX_DEGREE, &input.sides, num, den, load, ohms, exact)
         },
         result: |out| (out.load.to_vec(), out.flag),
     },
     plain: Call {
-        run: |Input { sides, num, den }, out| {
-            plain::evaluate(sides, *num, *den, &mut out.plain, &mut out.plain_flag).into()
+        run: |input, out| {
+            let (load, exact) = (&mut out.plain_load, &mut out.plain_flag);
+            plain::evaluate(&input.sides, input.num, input.den, load, exact).into()
         },
-        result: |out| (out.plain[..RECT_LENGTH].to_vec(), out.plain_flag),
+        result: |out| (out.plain_load.to_vec(), out.plain_flag),
     },
-    limit: Some(|Input { sides, num, den }, out| {
-        plain::evaluate_limit(sides, *num, *den, &mut out.plain, &mut out.plain_flag).into()
+    limit: Some(|input, out| {
+        let (load, exact) = (&mut out.plain_load, &mut out.plain_flag);
+        plain::evaluate_limit(&input.sides, input.num, input.den, load, exact).into()
     }),
 };
 
@@ -114,16 +124,13 @@ pub const SIXTEENTHS: Operation<AtSixteenth> = Operation {
     plain: Call {
         run: |AtSixteenth { degree, sides, j }, out| {
             let (load, ohms, exact) = (
-                &mut out.plain[..RECT_LENGTH],
+                &mut out.plain_load,
                 &mut out.plain_ohms,
                 &mut out.plain_flag,
             );
             plain_sixteenths::evaluate_sixteenths(*degree, sides, *j, load, ohms, exact)
         },
-        result: |out| {
-            let load = &out.plain[..RECT_LENGTH];
-            (with_ohms(load, &out.plain_ohms), out.plain_flag)
-        },
+        result: |out| (with_ohms(&out.plain_load, &out.plain_ohms), out.plain_flag),
     },
     limit: None,
 };
@@ -136,34 +143,42 @@ fn with_ohms(load: &[i32], ohms: &[f32]) -> Vec<i32> {
 
 pub const SUBDIVIDE: Operation<Input> = Operation {
     ours: Call {
-        run: |Input { sides, num, den }, out| {
+        run: |input, out| {
+            let (sum, sides, num, den) = (input.sum, &input.sides, input.num, input.den);
             let (left, right, exact) = (&mut out.left, &mut out.right, &mut out.flag);
-            raw::subdivide(MAX_DEGREE, sides, *num, *den, left, right, exact)
+            raw::subdivide(MAX_DEGREE, sum, sides, num, den, left, right, exact)
         },
-        result: |out| ([&out.left[1..], &out.right[1..]].concat(), out.flag),
+        result: |out| ([out.left, out.right].concat(), out.flag),
     },
     plain: Call {
-        run: |Input { sides, num, den }, out| {
-            plain::subdivide(sides, *num, *den, &mut out.plain, &mut out.plain_flag).into()
+        run: |input, out| {
+            let (sum, sides, num, den) = (input.sum, &input.sides, input.num, input.den);
+            let (pieces, exact) = (&mut out.plain_pieces, &mut out.plain_flag);
+            plain::subdivide(sum, sides, num, den, pieces, exact).into()
         },
-        result: |out| (out.plain.to_vec(), out.plain_flag),
+        result: |out| (out.plain_pieces.concat(), out.plain_flag),
     },
-    limit: Some(|Input { sides, num, den }, out| {
-        plain::subdivide_limit(sides, *num, *den, &mut out.plain, &mut out.plain_flag).into()
+    limit: Some(|input, out| {
+        let (sum, sides, num, den) = (input.sum, &input.sides, input.num, input.den);
+        let (pieces, exact) = (&mut out.plain_pieces, &mut out.plain_flag);
+        plain::subdivide_limit(sum, sides, num, den, pieces, exact).into()
     }),
 };
 
 pub const CHOOSE_SETTING: Operation<Listed> = Operation {
     ours: Call {
-        run: |Listed { sides, settings }, out| {
-            raw::choose_setting(MAX_DEGREE, sides, settings, DEPTH, BUDGET, &mut out.choice)
+        run: |list, out| {
+            let (sum, sides, settings) = (list.sum, &list.sides, &list.settings);
+            let choice = &mut out.choice;
+            raw::choose_setting(MAX_DEGREE, sum, sides, settings, DEPTH, BUDGET, choice)
         },
         result: |out| chosen(out.choice),
     },
     plain: Call {
-        run: |Listed { sides, settings }, out| {
+        run: |list, out| {
+            let (sum, sides, settings) = (list.sum, &list.sides, &list.settings);
             let choice = &mut out.plain_choice;
-            plain_settings::choose_setting(MAX_DEGREE, sides, settings, DEPTH, BUDGET, choice)
+            plain_settings::choose_setting(MAX_DEGREE, sum, sides, settings, DEPTH, BUDGET, choice)
         },
         result: |out| chosen(out.plain_choice),
     },
@@ -182,8 +197,8 @@ pub const fn enclose<const NUMBERS: usize>() -> Operation<Measured<NUMBERS>> {
             result: |out| (out.load.to_vec(), out.flag),
         },
         plain: Call {
-            run: |ohms, out| plain_enclose::enclose(ohms, &mut out.plain, &mut out.plain_flag),
-            result: |out| (out.plain[..RECT_LENGTH].to_vec(), out.plain_flag),
+            run: |ohms, out| plain_enclose::enclose(ohms, &mut out.plain_load, &mut out.plain_flag),
+            result: |out| (out.plain_load.to_vec(), out.plain_flag),
         },
         limit: None,
     }

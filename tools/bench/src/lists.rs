@@ -2,7 +2,7 @@
 //! records as a list may have.
 
 use crate::calls::{Listed, CURVE_SIDES};
-use crate::{plain_settings, SEED};
+use crate::{plain_settings, sums, SEED};
 use jusqani::{Curve, Interval, Rect, Setting, Verdict, MAX_DEGREE, MAX_SETTINGS, RECT_LENGTH};
 use second::draw;
 use second::given::Given;
@@ -45,16 +45,23 @@ struct Walk {
 pub fn lists(kind: Kind, count: usize) -> Vec<Listed> {
     let mut rng = Rng::new(SEED);
     let drawn = (0..CURVES).filter_map(|_| list(&mut rng, kind));
-    let lists: Vec<_> = drawn.take(count).collect();
+    let summed = drawn.zip(sums(DEPTH * MAX_DEGREE));
+    let lists = summed.map(|((sides, settings), sum)| Listed {
+        sum,
+        sides,
+        settings,
+    });
+    let lists: Vec<_> = lists.take(count).collect();
     assert_eq!(lists.len(), count, "{kind:?}: too few curves have a list");
     lists
 }
 
 /// How many pieces a walk looks at on average, in a search and in plain Rust.
 pub fn pieces(lists: &[Listed]) -> [f64; 2] {
-    let walks = lists.iter().flat_map(|Listed { sides, settings }| {
-        let curve = curve_of(sides);
-        settings.iter().map(move |s| walk(&curve, s.limits))
+    let walks = lists.iter().flat_map(|list| {
+        let curve = curve_of(&list.sides);
+        let boxes = list.settings.iter().map(|setting| setting.limits);
+        boxes.map(move |limits| walk(&curve, limits))
     });
     let both = walks.fold([0, 0], |sums, walk| {
         [sums[0] + walk.pieces, sums[1] + walk.plain_pieces]
@@ -62,8 +69,8 @@ pub fn pieces(lists: &[Listed]) -> [f64; 2] {
     both.map(|sum| f64::from(sum) / (lists.len() * MAX_SETTINGS) as f64)
 }
 
-/// A curve with its list; none where no such boxes were found for it.
-fn list(rng: &mut Rng, kind: Kind) -> Option<Listed> {
+/// A curve's sides with its list; none where no such boxes were found for it.
+fn list(rng: &mut Rng, kind: Kind) -> Option<([i32; CURVE_SIDES], Vec<Setting>)> {
     let curve = curve(rng);
     let limits = (1..=MAX_SETTINGS).map(|record| limits(rng, kind, &curve, record == MAX_SETTINGS));
     let limits = limits.collect::<Option<Vec<_>>>()?;
@@ -71,10 +78,8 @@ fn list(rng: &mut Rng, kind: Kind) -> Option<Listed> {
         limits,
         number: rng.draw() as u16,
     };
-    Some(Listed {
-        sides: sides(&curve),
-        settings: limits.into_iter().map(setting).collect(),
-    })
+    let settings = limits.into_iter().map(setting).collect();
+    Some((sides(&curve), settings))
 }
 
 /// The box of a record, which may be the last.
@@ -177,8 +182,12 @@ mod tests {
     use super::*;
     use jusqani::Choice;
 
-    fn chosen(Listed { sides, settings }: &Listed) -> Choice {
-        let chosen = curve_of(sides).choose_setting(settings, DEPTH, BUDGET);
+    fn chosen(list: &Listed) -> Choice {
+        let curve = Curve {
+            sum: list.sum,
+            ..curve_of(&list.sides)
+        };
+        let chosen = curve.choose_setting(&list.settings, DEPTH, BUDGET);
         chosen.expect("an accepted list")
     }
 

@@ -130,14 +130,24 @@ fn settings() -> Result<(), String> {
 /// The inputs of a row; the curves are the same ones, whatever the dens are.
 fn inputs(dens: RangeInclusive<i64>) -> Vec<Input> {
     let mut rng = Rng::new(SEED);
-    (0..INPUTS).map(|_| input(&mut rng, &dens)).collect()
+    let summed = sums(MAX_DEGREE).take(INPUTS);
+    summed.map(|sum| input(&mut rng, sum, &dens)).collect()
 }
 
-/// An accepted curve and an accepted parameter.
-fn input(rng: &mut Rng, dens: &RangeInclusive<i64>) -> Input {
+/// Sums of steps that leave room for so many more. They are drawn by themselves, so that the curves do not
+/// depend on them.
+fn sums(more: u32) -> impl Iterator<Item = u16> {
+    let mut rng = Rng::new(SEED);
+    let largest = u32::from(u16::MAX) - more;
+    std::iter::repeat_with(move || rng.between(0, largest.into()) as u16)
+}
+
+/// An accepted curve with this sum and an accepted parameter.
+fn input(rng: &mut Rng, sum: u16, dens: &RangeInclusive<i64>) -> Input {
     let given = Given::exact(&curve(rng, MAX_DEGREE as usize));
     let den = rng.between(*dens.start(), *dens.end());
     Input {
+        sum,
         sides: std::array::from_fn::<i32, CURVE_SIDES, _>(|side| given.sides()[side]),
         num: rng.between(0, den) as u32,
         den: den as u32,
@@ -163,7 +173,7 @@ fn with_spread(rng: &mut Rng) -> Measured<WITH_SPREAD> {
     [LOAD_OHMS * r, LOAD_OHMS * x, SPREAD_OHMS * spread].map(|ohms| ohms as f32)
 }
 
-/// Whether both sides accept every input and give the same sides and the same flag.
+/// Whether both sides accept every input and give the same numbers and the same flag.
 fn agree<I>(operation: &Operation<I>, inputs: &[I]) -> bool {
     let Operation { ours, plain, .. } = operation;
     inputs.iter().all(|input| {
@@ -257,6 +267,7 @@ mod tests {
     use jusqani::MAX_SIDE;
 
     const HALF: Input = Input {
+        sum: 65_527,
         sides: [7; CURVE_SIDES],
         num: 1,
         den: 2,
@@ -308,12 +319,43 @@ mod tests {
         ];
         for operation in [EVALUATE, SUBDIVIDE] {
             for (number, input) in &refused {
-                let runs = [operation.plain.run, operation.limit.unwrap()];
-                let mut buffers = Buffers::EMPTY;
-                let answers = runs.map(|run| run(input, &mut buffers));
-                assert_eq!(answers, [*number; 2]);
+                assert_eq!(plain_and_limit(&operation, input), [*number; 2]);
             }
         }
+    }
+
+    fn plain_and_limit(operation: &Operation<Input>, input: &Input) -> [u64; 2] {
+        let runs = [operation.plain.run, operation.limit.unwrap()];
+        runs.map(|run| answer(run, input))
+    }
+
+    fn answer(run: Run<Input>, input: &Input) -> u64 {
+        let mut buffers = Buffers::EMPTY;
+        run(input, &mut buffers)
+    }
+
+    /// A cut's sum is tested last and by all alike, and a reading's is not.
+    #[test]
+    fn refuses_a_sum_as_ours_does() {
+        let full = Input {
+            sum: 65_528,
+            ..HALF
+        };
+        assert_eq!(plain_and_limit(&SUBDIVIDE, &full), [17; 2]);
+        assert_eq!(answer(SUBDIVIDE.ours.run, &full), 17);
+        let past_the_end = Input { num: 3, ..full };
+        assert_eq!(plain_and_limit(&SUBDIVIDE, &past_the_end), [5; 2]);
+        assert_eq!(answer(SUBDIVIDE.ours.run, &past_the_end), 5);
+        assert!(agree(&SUBDIVIDE, &[HALF]) && agree(&EVALUATE, &[HALF, full]));
+    }
+
+    /// The sums are various, and leave the room that they are asked to.
+    #[test]
+    fn draws_sums_with_room() {
+        let drawn: Vec<u16> = sums(MAX_DEGREE).take(INPUTS).collect();
+        assert!(drawn.iter().all(|sum| *sum <= 65_527));
+        assert!((0..4).all(|k| drawn.iter().any(|sum| sum / 16_384 == k)));
+        assert!(sums(u16::MAX.into()).take(INPUTS).all(|sum| sum == 0));
     }
 
     /// The median ratio is the one of the rounds, and a row without a limit ends before it.

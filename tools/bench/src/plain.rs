@@ -3,8 +3,8 @@
 //! exact flag out as ours does, from the remainder of each division; it works out no ohms, which ours does.
 //! Below it stands the limit: its tests and its copies alone, which no way of making the maps can save.
 
-use crate::calls::CURVE_SIDES;
-use jusqani::{MAX_DEN, MAX_SIDE, PLACES, RECT_LENGTH};
+use crate::calls::{Pieces, CURVE_SIDES};
+use jusqani::{CURVE_LENGTH, MAX_DEGREE, MAX_DEN, MAX_SIDE, PLACES, RECT_LENGTH};
 use std::hint::black_box;
 
 type Rect = [i32; RECT_LENGTH];
@@ -34,6 +34,14 @@ fn refusal(points: &Points, num: u32, den: u32) -> u32 {
         return 5;
     }
     0
+}
+
+/// The sum of steps of both pieces of a cut, or its refusal's number: the same, then 17.
+fn piece_sum(points: &Points, sum: u16, num: u32, den: u32) -> Result<u16, u32> {
+    match refusal(points, num, den) {
+        0 => sum.checked_add(MAX_DEGREE as u16).ok_or(17),
+        number => Err(number),
+    }
 }
 
 /// The affine map of two rectangles at num/den, rounded outward, and whether no division left a remainder.
@@ -68,6 +76,13 @@ fn store(points: &[Rect], out: &mut [i32]) {
     }
 }
 
+/// A piece as ours stores it: the degree, the sum, then the sides.
+fn store_piece(sum: u16, points: &[Rect], out: &mut [i32; CURVE_LENGTH]) {
+    out[0] = MAX_DEGREE as i32;
+    out[1] = sum.into();
+    store(points, &mut out[CURVE_LENGTH - CURVE_SIDES..]);
+}
+
 pub fn evaluate(sides: &[i32], num: u32, den: u32, out: &mut [i32], exact: &mut u32) -> u32 {
     let mut points = points_of(sides);
     let number = refusal(&points, num, den);
@@ -84,20 +99,27 @@ pub fn evaluate(sides: &[i32], num: u32, den: u32, out: &mut [i32], exact: &mut 
 }
 
 /// The first rectangle of each stage is the left piece; what the stages leave in place is the right one.
-pub fn subdivide(sides: &[i32], num: u32, den: u32, out: &mut [i32], exact: &mut u32) -> u32 {
+pub fn subdivide(
+    sum: u16,
+    sides: &[i32],
+    num: u32,
+    den: u32,
+    out: &mut Pieces,
+    exact: &mut u32,
+) -> u32 {
     let mut points = points_of(sides);
-    let number = refusal(&points, num, den);
-    if number != 0 {
-        return number;
-    }
+    let sum = match piece_sum(&points, sum, num, den) {
+        Ok(sum) => sum,
+        Err(number) => return number,
+    };
     let mut left = points;
     let mut whole = true;
     for length in (2..=PLACES).rev() {
         whole &= stage(&mut points[..length], num, den);
         left[PLACES + 1 - length] = points[0];
     }
-    store(&left, &mut out[..CURVE_SIDES]);
-    store(&points, &mut out[CURVE_SIDES..]);
+    store_piece(sum, &left, &mut out[0]);
+    store_piece(sum, &points, &mut out[1]);
     *exact = whole.into();
     0
 }
@@ -116,16 +138,23 @@ pub fn evaluate_limit(sides: &[i32], num: u32, den: u32, out: &mut [i32], exact:
     0
 }
 
-/// Subdivide without its maps, in the same way; both pieces are the curve itself.
-pub fn subdivide_limit(sides: &[i32], num: u32, den: u32, out: &mut [i32], exact: &mut u32) -> u32 {
+/// Subdivide without its maps, in the same way; both pieces are the curve itself with the pieces' sum.
+pub fn subdivide_limit(
+    sum: u16,
+    sides: &[i32],
+    num: u32,
+    den: u32,
+    out: &mut Pieces,
+    exact: &mut u32,
+) -> u32 {
     let points = points_of(sides);
-    let number = refusal(&points, num, den);
-    if number != 0 {
-        return number;
-    }
+    let sum = match piece_sum(&points, sum, num, den) {
+        Ok(sum) => sum,
+        Err(number) => return number,
+    };
     let first = black_box(0);
-    store(&points[first..], &mut out[..CURVE_SIDES]);
-    store(&points[first..], &mut out[CURVE_SIDES..]);
+    store_piece(sum, &points[first..], &mut out[0]);
+    store_piece(sum, &points[first..], &mut out[1]);
     *exact = 1;
     0
 }

@@ -3,7 +3,8 @@
 //! only whether it ends Inside. So it ends at the first piece that lies outside the box, that the depth
 //! leaves undecided or that the budget does not reach; the walk of a search goes on behind an undecided
 //! piece, since one that lies outside may come. A piece is cut by the stages of plain subdivide, called with
-//! 1 and 2, so that every side has its division; the exact flag, which no walk needs, is not looked at.
+//! 1 and 2, so that every side has its division; the exact flag, which no walk needs, is not looked at, and a
+//! piece has no sum of steps, which no walk needs once the curve's is tested.
 
 use crate::plain::stage;
 use crate::plain_sixteenths::{points_of, refused};
@@ -32,8 +33,8 @@ fn is_box(limits: Rect) -> bool {
     is_in_range(&limits) && limits[0] < limits[1] && limits[2] < limits[3]
 }
 
-/// 2 over all rectangles, 3 over all, 7 over all records, then 8 and 9.
-fn refusal(points: &[Rect], settings: &[Setting], depth: u32, budget: u32) -> u64 {
+/// 2 over all rectangles, 3 over all, 7 over all records, then 8, 9 and 17.
+fn refusal(points: &[Rect], sum: u16, settings: &[Setting], depth: u32, budget: u32) -> u64 {
     if let Some(place) = points.iter().position(|point| !is_in_range(point)) {
         return refused(2, place);
     }
@@ -49,6 +50,10 @@ fn refusal(points: &[Rect], settings: &[Setting], depth: u32, budget: u32) -> u6
     }
     if !(1..=MAX_BUDGET).contains(&budget) {
         return refused(9, 0);
+    }
+    let degree = points.len() as u32 - 1;
+    if u32::from(sum) + depth * degree > u16::MAX.into() {
+        return refused(17, 0);
     }
     0
 }
@@ -110,6 +115,7 @@ pub fn pieces(n: usize, sides: &[i32], limits: &Rect, depth: u32, budget: u32) -
 #[inline(never)]
 pub fn choose_setting(
     degree: u32,
+    sum: u16,
     sides: &[i32],
     settings: &[Setting],
     depth: u32,
@@ -124,7 +130,7 @@ pub fn choose_setting(
     }
     let n = degree as usize;
     let points = &points_of(n, sides)[..=n];
-    let answer = refusal(points, settings, depth, budget);
+    let answer = refusal(points, sum, settings, depth, budget);
     if answer != 0 {
         return answer;
     }
@@ -148,33 +154,41 @@ mod tests {
     use second::given::Given;
     use second::rng::Rng;
 
-    type Choose = fn(u32, &[i32], &[Setting], u32, u32, &mut [u32]) -> u64;
+    type Choose = fn(u32, u16, &[i32], &[Setting], u32, u32, &mut [u32]) -> u64;
 
-    /// Also where a list, a curve, a depth or a budget is refused, or the room is too short, both answer alike
-    /// and leave the same, from the same buffer.
+    /// The sums about the greatest that a walk of some depth can have on a curve of degree 8.
+    const SUMS: [u16; 8] = [0, 0, 0, 9, 65_487, 65_488, 65_511, 65_535];
+
+    /// Also where a list, a curve, a depth, a budget or a sum is refused, or the room is too short, both answer
+    /// alike and leave the same, from the same buffer.
     #[test]
     fn answers_as_ours_does() {
         let mut rng = Rng::new(10);
-        let (mut fits, mut none, mut refused) = (0, 0, 0);
-        for k in 0..6_000 {
+        let (mut fits, mut none, mut refused, mut summed) = (0, 0, 0, 0);
+        for k in 0..12_000 {
             let drawn = curve(&mut rng, 1 + k % MAX_DEGREE as usize);
             let given = given_of(&mut rng, drawn);
             let settings = settings(&mut rng, &given);
             let depth = rng.pick(&[0, 1, 3, 5, 6, 13]);
             let budget = rng.pick(&[0, 1, 3, 9, 500, 500, 8_191, 8_192]);
             let room = rng.pick(&[0, 2, 3, 3, 4, 4, 4, 4]);
+            let sum = rng.pick(&SUMS);
             let [ours, plain] = [raw::choose_setting as Choose, choose_setting].map(|call| {
                 let mut choice = [7; CHOICE_LENGTH + 1];
                 let (sides, room) = (given.sides(), &mut choice[..room]);
-                let answer = call(given.degree, sides, &settings, depth, budget, room);
+                let answer = call(given.degree, sum, sides, &settings, depth, budget, room);
                 (answer, choice)
             });
-            assert_eq!(ours, plain, "{given}, {settings:?}, {depth}, {budget}");
+            assert_eq!(
+                ours, plain,
+                "{given}, sum {sum}, {settings:?}, {depth}, {budget}"
+            );
             refused += usize::from(ours.0 != 0);
+            summed += usize::from(ours.0 == 17);
             fits += usize::from(ours.0 == 0 && ours.1[0] == FITS);
             none += usize::from(ours.0 == 0 && ours.1[0] == NONE_FITS);
         }
-        let came = [fits, none, refused];
+        let came = [fits, none, refused, summed];
         assert!(came.iter().all(|times| *times > 500), "{came:?}");
     }
 

@@ -20,8 +20,11 @@ pub const SIXTEENTHS: u32 = 16;
 /// The numbers of a rectangle.
 pub const RECT_LENGTH: usize = 4;
 
-/// The numbers of a curve of the highest degree: its degree, then its sides.
+/// The numbers of a curve of the highest degree: its degree, its sum of steps, then its sides.
 pub const CURVE_LENGTH: usize = curve_length(MAX_DEGREE);
+
+/// The numbers in front of a curve's sides: its degree and its sum of steps.
+const CURVE_HEAD: usize = 2;
 
 /// The numbers of a verdict.
 pub const VERDICT_LENGTH: usize = 4;
@@ -34,7 +37,7 @@ const ROUNDED: u32 = 0;
 
 /// The numbers of a curve of this degree.
 pub const fn curve_length(degree: u32) -> usize {
-    1 + RECT_LENGTH * (degree as usize + 1)
+    CURVE_HEAD + RECT_LENGTH * (degree as usize + 1)
 }
 
 /// The bytes of the card of a curve of this degree.
@@ -92,18 +95,24 @@ impl From<Rect> for [i32; RECT_LENGTH] {
     }
 }
 
-/// A curve: its degree n, and its rectangles 0 to n. Calls do not read the places past n, and give
-/// zero there.
+/// A curve: its degree n, its sum of steps, and its rectangles 0 to n. Calls do not read the places past n,
+/// and give zero there.
+///
+/// A card's curve has the sum 0, a cut adds the degree and a raising 1. For any curve reached from a card by
+/// these, no side is farther out than the same steps without rounding give by more than the sum, and none lies
+/// short.
 #[derive(Clone, Copy, Debug, Default)]
 pub struct Curve {
     pub degree: u32,
+    pub sum: u16,
     pub points: [Rect; PLACES],
 }
 
-/// Two curves are equal if their degrees and their rectangles 0 to n are.
+/// Two curves are equal if their degrees, their sums and their rectangles 0 to n are.
 impl PartialEq for Curve {
     fn eq(&self, other: &Curve) -> bool {
-        self.degree == other.degree && self.control_points() == other.control_points()
+        let heads = (self.degree, self.sum) == (other.degree, other.sum);
+        heads && self.control_points() == other.control_points()
     }
 }
 
@@ -118,8 +127,8 @@ pub struct Evaluation {
     pub exact: bool,
 }
 
-/// The pieces of a curve up to a parameter and from there on. They are exact where nothing was rounded,
-/// as the load at that parameter then is too.
+/// The pieces of a curve up to a parameter and from there on, each with the curve's sum plus its degree. They
+/// are exact where nothing was rounded, as the load at that parameter then is too.
 #[derive(Clone, Copy, PartialEq, Eq, Debug, Default)]
 pub struct Subdivision {
     pub left: Curve,
@@ -127,7 +136,7 @@ pub struct Subdivision {
     pub exact: bool,
 }
 
-/// A curve with its degree raised by one, exact where nothing was rounded.
+/// A curve with its degree and its sum raised by one, exact where nothing was rounded.
 #[derive(Clone, Copy, PartialEq, Eq, Debug, Default)]
 pub struct Elevation {
     pub curve: Curve,
@@ -218,6 +227,7 @@ impl Curve {
         let (mut left, mut right, mut exact) = ([0; CURVE_LENGTH], [0; CURVE_LENGTH], ROUNDED);
         let answer = raw::subdivide(
             self.degree,
+            self.sum,
             &self.sides(),
             num,
             den,
@@ -237,7 +247,13 @@ impl Curve {
     #[inline]
     pub fn elevate(&self) -> Result<Elevation, Refusal> {
         let (mut raised, mut exact) = ([0; CURVE_LENGTH], ROUNDED);
-        let answer = raw::elevate(self.degree, &self.sides(), &mut raised, &mut exact);
+        let answer = raw::elevate(
+            self.degree,
+            self.sum,
+            &self.sides(),
+            &mut raised,
+            &mut exact,
+        );
         Refusal::check(answer)?;
         Ok(Elevation {
             curve: Curve::of(&raised),
@@ -261,6 +277,7 @@ impl Curve {
         let mut verdict = [0; VERDICT_LENGTH];
         let answer = raw::search(
             self.degree,
+            self.sum,
             &self.sides(),
             &limits,
             depth,
@@ -283,6 +300,7 @@ impl Curve {
         let mut choice = [0; CHOICE_LENGTH];
         let answer = raw::choose_setting(
             self.degree,
+            self.sum,
             &self.sides(),
             settings,
             depth,
@@ -293,7 +311,7 @@ impl Curve {
         Ok(Choice::of(choice))
     }
 
-    /// The curve of a card.
+    /// The curve of a card, with the sum 0.
     #[inline]
     pub fn read_card(card: &[u8]) -> Result<Curve, Refusal> {
         let mut curve = [0; CURVE_LENGTH];
@@ -301,7 +319,7 @@ impl Curve {
         Ok(Curve::of(&curve))
     }
 
-    /// Writes the curve's card to the front of a buffer, and gives its length.
+    /// Writes the curve's card, which is without its sum, to the front of a buffer, and gives its length.
     #[inline]
     pub fn write_card(&self, card: &mut [u8]) -> Result<usize, Refusal> {
         Refusal::check(raw::write_card(self.degree, &self.sides(), card))?;
@@ -326,17 +344,20 @@ impl Curve {
         sides
     }
 
-    /// The curve that a call gave: its degree, then its sides; the call left the zeros behind them.
+    /// The curve that a call gave: its degree, its sum, then its sides; the call left the zeros behind them.
     #[inline]
     fn of(numbers: &[i32; CURVE_LENGTH]) -> Curve {
         let mut points = [Rect::default(); PLACES];
         for (rect, four) in points
             .iter_mut()
-            .zip(numbers[1..].chunks_exact(RECT_LENGTH))
+            .zip(numbers[CURVE_HEAD..].chunks_exact(RECT_LENGTH))
         {
             *rect = [four[0], four[1], four[2], four[3]].into();
         }
-        let degree = numbers[0] as u32;
-        Curve { degree, points }
+        Curve {
+            degree: numbers[0] as u32,
+            sum: numbers[1] as u16,
+            points,
+        }
     }
 }

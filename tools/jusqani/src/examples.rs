@@ -246,11 +246,11 @@ fn stores_a_choice_in_front() {
     let good = &settings(&[([0, 5, 0, 1], 1)]);
     let mut choice = [7; CHOICE_LENGTH + 1];
     let sides = [0, 0, 0, 0, 4, 4, 0, 0];
-    let short = raw::choose_setting(1, &sides, good, 12, 5, &mut choice[..2]);
+    let short = raw::choose_setting(1, 0, &sides, good, 12, 5, &mut choice[..2]);
     assert_eq!((short, choice), (12 | 3 << 32, [7; 4]));
-    let short = raw::choose_setting(1, &sides, good, 12, 0, &mut choice[..2]);
+    let short = raw::choose_setting(1, 0, &sides, good, 12, 0, &mut choice[..2]);
     assert_eq!((short, choice), (9, [7; 4]));
-    let chosen = raw::choose_setting(1, &sides, good, 12, 5, &mut choice);
+    let chosen = raw::choose_setting(1, 0, &sides, good, 12, 5, &mut choice);
     assert_eq!((chosen, choice), (0, [1, 0, 1, 7]));
 }
 
@@ -282,4 +282,104 @@ fn compares_curves_up_to_their_degree() {
     other.points[2] = [5, 6, 7, 8].into();
     assert_eq!(other, values(&[1, 2]));
     assert_ne!(values(&[1, 2, 0]), values(&[1, 2]));
+    assert_ne!(with_sum(1, values(&[1, 2])), values(&[1, 2]));
+}
+
+/// The same curve with another sum of steps.
+fn with_sum(sum: u16, curve: Curve) -> Curve {
+    Curve { sum, ..curve }
+}
+
+/// Document 02, point 7. A cut adds the degree in both pieces, and a raising 1.
+#[test]
+fn adds_up_the_steps() {
+    let curve = Curve::read_card(CARD).unwrap();
+    assert_eq!(curve.sum, 0);
+    let raised = curve.elevate().unwrap().curve;
+    assert_eq!((raised.degree, raised.sum), (2, 1));
+    let Subdivision { left, right, .. } = raised.subdivide(1, 3).unwrap();
+    assert_eq!([left.sum, right.sum], [3, 3]);
+    let last = right.subdivide(0, 1).unwrap().right;
+    assert_eq!((last.degree, last.sum), (2, 5));
+    let raised = last.elevate().unwrap().curve;
+    assert_eq!((raised.degree, raised.sum), (3, 6));
+}
+
+#[test]
+fn refuses_a_sum_past_its_end() {
+    let wave = values(&[0, 4, 0, 4, 0, 4, 0, 4, 0]);
+    let Subdivision { left, right, .. } = with_sum(65_527, wave).subdivide(1, 2).unwrap();
+    assert_eq!([left.sum, right.sum], [u16::MAX; 2]);
+    assert_eq!(with_sum(65_528, wave).subdivide(1, 2), refused(17, 0));
+    let line = values(&[0, 4]);
+    let raised = with_sum(65_534, line).elevate().unwrap().curve;
+    assert_eq!(raised.sum, u16::MAX);
+    assert_eq!(with_sum(65_535, line).elevate(), refused(17, 0));
+}
+
+/// Whatever a walk finds, a piece at its depth limit has to have a sum.
+#[test]
+fn refuses_a_walk_whose_sum_could_pass_its_end() {
+    let wave = values(&[0, 4, 0, 4, 0, 4, 0, 4, 0]);
+    let whole = [0, 5, 0, 1];
+    let inside = Ok(Verdict::Inside { count: 1 });
+    let search = |sum, depth| with_sum(sum, wave).search(whole.into(), depth, 1);
+    assert_eq!(search(65_535, 0), inside);
+    assert_eq!(search(65_535, 1), refused(17, 0));
+    assert_eq!(search(65_439, 12), inside);
+    assert_eq!(search(65_440, 12), refused(17, 0));
+    let list = settings(&[(whole, 7)]);
+    let (index, number) = (0, 7);
+    let fits = Ok(Choice::Fits { index, number });
+    let choose = |sum, depth| with_sum(sum, wave).choose_setting(&list, depth, 1);
+    assert_eq!(choose(65_535, 0), fits);
+    assert_eq!(choose(65_535, 1), refused(17, 0));
+    assert_eq!(choose(65_439, 12), fits);
+    assert_eq!(choose(65_440, 12), refused(17, 0));
+}
+
+/// 17 is the last of a call's own refusals, and comes before the room alone.
+#[test]
+fn refuses_a_sum_last() {
+    let full = |resistances: &[i32]| with_sum(u16::MAX, values(resistances));
+    let line = full(&[0, 4]);
+    assert_eq!(full(&[0, MAX_SIDE + 1]).elevate(), refused(2, 1));
+    assert_eq!(line.subdivide(1, 0), refused(4, 0));
+    assert_eq!(line.subdivide(8, 7), refused(5, 0));
+    assert_eq!(full(&[0; 9]).elevate(), refused(6, 0));
+    let whole = [0, 5, 0, 1];
+    assert_eq!(line.search([0; 4].into(), 12, 1), refused(7, 0));
+    assert_eq!(line.search(whole.into(), 13, 1), refused(8, 0));
+    assert_eq!(line.search(whole.into(), 12, 0), refused(9, 0));
+    let list = settings(&[(whole, 1), ([0; 4], 2)]);
+    assert_eq!(line.choose_setting(&[], 12, 1), refused(16, 0));
+    assert_eq!(line.choose_setting(&list, 12, 1), refused(7, 1));
+    assert_eq!(line.choose_setting(&list[..1], 13, 1), refused(8, 0));
+    assert_eq!(line.choose_setting(&list[..1], 12, 0), refused(9, 0));
+    let sides = [0, 0, 0, 0, 4, 4, 0, 0];
+    let (mut left, mut right, mut exact) = ([7; 9], [7; 10], 7);
+    let mut cut = |sum| raw::subdivide(1, sum, &sides, 1, 2, &mut left, &mut right, &mut exact);
+    assert_eq!([cut(u16::MAX), cut(65_534)], [17, 12 | 10 << 32]);
+    assert_eq!((left, right, exact), ([7; 9], [7; 10], 7));
+}
+
+/// A call that is not given the sum never looks at it.
+#[test]
+fn reads_and_writes_at_any_sum() {
+    let curve = Curve::read_card(CARD).unwrap();
+    let full = with_sum(u16::MAX, curve);
+    assert_eq!(full.evaluate(1, 2), curve.evaluate(1, 2));
+    assert_eq!(full.evaluate_sixteenths(3), curve.evaluate_sixteenths(3));
+    assert_eq!(full.bounds(), curve.bounds());
+    assert_eq!(full.card().unwrap(), CARD);
+}
+
+/// A piece written and read again is equal but for its sum, which is 0.
+#[test]
+fn saves_a_piece_without_its_sum() {
+    let piece = values(&[1, 0, 3]).subdivide(1, 2).unwrap().right;
+    assert_eq!(piece.sum, 2);
+    let again = Curve::read_card(&piece.card().unwrap()).unwrap();
+    assert_eq!(again, with_sum(0, piece));
+    assert_ne!(again, piece);
 }

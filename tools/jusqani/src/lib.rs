@@ -1,5 +1,6 @@
 //! Interval Bézier curves of an antenna's load: the proved calls of `include/jusqani.h`, by value and
-//! without unsafe code for the programs that use them. A side is a whole number of steps of 1/1,024 ohm.
+//! without unsafe code for the programs that use them. A side is a whole number of steps of 1/1,024 ohm, and
+//! a curve carries the sum of steps by which its cuts and raisings may have moved its sides outward.
 #![deny(unsafe_code)]
 
 mod bridge;

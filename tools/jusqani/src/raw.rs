@@ -37,6 +37,7 @@ mod foreign {
         ) -> u64;
         pub fn jusqani_subdivide(
             degree: u32,
+            sum: u16,
             sides: *const i32,
             sides_length: usize,
             num: u32,
@@ -49,6 +50,7 @@ mod foreign {
         ) -> u64;
         pub fn jusqani_elevate(
             degree: u32,
+            sum: u16,
             sides: *const i32,
             sides_length: usize,
             raised: *mut i32,
@@ -64,6 +66,7 @@ mod foreign {
         ) -> u64;
         pub fn jusqani_search(
             degree: u32,
+            sum: u16,
             sides: *const i32,
             sides_length: usize,
             limits: *const i32,
@@ -75,6 +78,7 @@ mod foreign {
         ) -> u64;
         pub fn jusqani_choose_setting(
             degree: u32,
+            sum: u16,
             sides: *const i32,
             sides_length: usize,
             settings: *const Setting,
@@ -169,10 +173,13 @@ pub fn evaluate_sixteenths(
     }
 }
 
-/// Subdivides a curve at num/den into two curves of its degree, with the exact flag.
+/// Subdivides a curve at num/den into two curves of its degree, with the exact flag. The sum of steps of
+/// each is the curve's plus its degree.
+#[allow(clippy::too_many_arguments)] // The header's eight, a slice counted once.
 #[inline]
 pub fn subdivide(
     degree: u32,
+    sum: u16,
     sides: &[i32],
     num: u32,
     den: u32,
@@ -184,6 +191,7 @@ pub fn subdivide(
     unsafe {
         foreign::jusqani_subdivide(
             degree,
+            sum,
             sides.as_ptr(),
             sides.len(),
             num,
@@ -197,13 +205,14 @@ pub fn subdivide(
     }
 }
 
-/// Raises a curve's degree by one, with the exact flag.
+/// Raises a curve's degree by one, with the exact flag. The sum of steps grows by one.
 #[inline]
-pub fn elevate(degree: u32, sides: &[i32], raised: &mut [i32], exact: &mut u32) -> u64 {
+pub fn elevate(degree: u32, sum: u16, sides: &[i32], raised: &mut [i32], exact: &mut u32) -> u64 {
     // Sound: two slices with their lengths, the second and the flag lent alone (see the module).
     unsafe {
         foreign::jusqani_elevate(
             degree,
+            sum,
             sides.as_ptr(),
             sides.len(),
             raised.as_mut_ptr(),
@@ -232,6 +241,7 @@ pub fn bounds(degree: u32, sides: &[i32], rect: &mut [i32]) -> u64 {
 #[inline]
 pub fn search(
     degree: u32,
+    sum: u16,
     sides: &[i32],
     limits: &[i32],
     depth: u32,
@@ -242,6 +252,7 @@ pub fn search(
     unsafe {
         foreign::jusqani_search(
             degree,
+            sum,
             sides.as_ptr(),
             sides.len(),
             limits.as_ptr(),
@@ -258,6 +269,7 @@ pub fn search(
 #[inline]
 pub fn choose_setting(
     degree: u32,
+    sum: u16,
     sides: &[i32],
     settings: &[Setting],
     depth: u32,
@@ -269,6 +281,7 @@ pub fn choose_setting(
     unsafe {
         foreign::jusqani_choose_setting(
             degree,
+            sum,
             sides.as_ptr(),
             sides.len(),
             settings.as_ptr(),
@@ -296,7 +309,7 @@ pub fn enclose(ohms: &[f32], rect: &mut [i32], found: &mut u32) -> u64 {
     }
 }
 
-/// Reads a card's curve: its degree, then its sides.
+/// Reads a card's curve: its degree, its sum of steps, which is 0, then its sides.
 #[inline]
 pub fn read_card(card: &[u8], curve: &mut [i32]) -> u64 {
     // Sound: two slices with their lengths, the second lent alone (see the module).

@@ -33,6 +33,7 @@ impl Refusal {
             14 => "with the spread a side is out of range (16,384 ohms either way)",
             15 => "j is above 16",
             16 => "the list of settings is empty or longer than 64",
+            17 => "the sum of steps would pass 65,535",
             _ => "not a refusal of this library",
         }
     }
@@ -101,7 +102,11 @@ mod tests {
             "refused 12: a buffer for the result is too short, the length 16 is needed"
         );
         assert_eq!(shown(15, 0), "refused 15: j is above 16");
-        assert_eq!(shown(17, 0), "refused 17: not a refusal of this library");
+        assert_eq!(
+            shown(17, 0),
+            "refused 17: the sum of steps would pass 65,535"
+        );
+        assert_eq!(shown(18, 0), "refused 18: not a refusal of this library");
     }
 
     #[test]

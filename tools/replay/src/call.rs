@@ -2,8 +2,8 @@
 
 use jusqani::{Rect, Setting};
 
-use crate::ledger::Kept;
 use crate::line::{line_end, number, Fault, Field};
+use crate::stretch::Kept;
 
 /// A call with all that it is given.
 #[derive(Clone, PartialEq, Debug)]
@@ -31,6 +31,9 @@ pub enum Call {
         settings: Vec<Setting>,
         depth: u32,
         budget: u32,
+    },
+    SetSum {
+        sum: u16,
     },
 }
 
@@ -67,6 +70,13 @@ const SETTING: Field = Field {
     largest: u16::MAX as i64,
 };
 
+/// The sum that a curve is given.
+const SUM: Field = Field {
+    name: "the sum of steps",
+    least: 0,
+    largest: u16::MAX as i64,
+};
+
 /// What kind of line it is, as its first column tells.
 #[derive(Clone, Copy, PartialEq, Debug)]
 pub enum Kind {
@@ -78,6 +88,7 @@ pub enum Kind {
     Search,
     EvaluateSixteenths,
     ChooseSetting,
+    SetSum,
 }
 
 impl Kind {
@@ -93,9 +104,10 @@ impl Kind {
             6 => Ok(Kind::Search),
             7 => Ok(Kind::EvaluateSixteenths),
             8 => Ok(Kind::ChooseSetting),
+            9 => Ok(Kind::SetSum),
             other => Err(Fault {
                 at: 0,
-                what: format!("{other} is no call: 1 to 8 are the calls, and 0 ends a case"),
+                what: format!("{other} is no call: 1 to 9 are the calls, and 0 ends a case"),
             }),
         }
     }
@@ -104,7 +116,7 @@ impl Kind {
     pub fn columns(self) -> usize {
         match self {
             Kind::Close | Kind::Elevate | Kind::Bounds => 1,
-            Kind::EvaluateSixteenths => 2,
+            Kind::EvaluateSixteenths | Kind::SetSum => 2,
             Kind::Evaluate | Kind::Subdivide(_) => 3,
             Kind::ChooseSetting => 4,
             Kind::Search => 7,
@@ -132,6 +144,9 @@ impl Kind {
                 call(Call::EvaluateSixteenths { j })
             }
             Kind::ChooseSetting => First::List(list(line)?),
+            Kind::SetSum => call(Call::SetSum {
+                sum: SUM.read(line, 1)?,
+            }),
         };
         line_end(line, self.columns())?;
         Ok(first)
@@ -229,7 +244,7 @@ mod tests {
             depth: 5,
             budget: 6,
         };
-        let calls: [(&[i64], Call); 7] = [
+        let calls: [(&[i64], Call); 8] = [
             (&[1, 1, word], Call::Evaluate { num, den }),
             (&[2, 1, word], subdivide(Kept::Left)),
             (&[3, 1, word], subdivide(Kept::Right)),
@@ -237,6 +252,7 @@ mod tests {
             (&[5], Call::Bounds),
             (&[6, -1, 2, -3, 4, 5, 6], search),
             (&[7, word], Call::EvaluateSixteenths { j: u32::MAX }),
+            (&[9, 65_535], Call::SetSum { sum: u16::MAX }),
         ];
         for (numbers, call) in calls {
             assert_eq!(read(numbers), Ok(First::Whole(Request::Call(call))));
@@ -302,8 +318,8 @@ mod tests {
 
     #[test]
     fn finds_the_first_wrong_column() {
-        let words = "9 is no call: 1 to 8 are the calls, and 0 ends a case";
-        assert_eq!(wrong(&[9]), (0, words.to_string()));
+        let words = "10 is no call: 1 to 9 are the calls, and 0 ends a case";
+        assert_eq!(wrong(&[10]), (0, words.to_string()));
         let words = "num is -1, which is not 0 to 4294967295";
         assert_eq!(wrong(&[1, -1, -1]), (10, words.to_string()));
         let words = "j is -1, which is not 0 to 4294967295";
@@ -322,5 +338,10 @@ mod tests {
         assert_eq!(wrong(&[8, 5, 6, -1]), (30, words.to_string()));
         assert_eq!(wrong(&[8, 5, 6]).0, 30);
         assert_eq!(wrong(&[8, 5, 6, 1, 1]).0, 40);
+        let words = "the sum of steps is 65536, which is not 0 to 65535";
+        assert_eq!(wrong(&[9, 65_536]), (10, words.to_string()));
+        assert_eq!(wrong(&[9, -1]).0, 10);
+        assert_eq!(wrong(&[9]).0, 10);
+        assert_eq!(wrong(&[9, 5, 5]).0, 20);
     }
 }

@@ -218,7 +218,9 @@ mod tests {
     #[test]
     fn finds_the_fault_in_a_call_line() {
         let after = |line: &str| malformed(&format!("{CARD}         4\n{line}"));
-        assert_eq!(after("         9\n"), (104, 5, 1));
+        assert_eq!(after("        10\n"), (104, 5, 1));
+        assert_eq!(after("         9\n"), (104, 5, 11));
+        assert_eq!(after("         9     65536\n"), (104, 5, 11));
         assert_eq!(after("\n"), (104, 5, 1));
         assert_eq!(after("         1         1\n"), (104, 5, 21));
         assert_eq!(after("         1         1         2"), (104, 5, 31));

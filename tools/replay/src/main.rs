@@ -5,12 +5,12 @@
 mod call;
 mod columns;
 mod input;
-mod ledger;
 mod line;
 mod natural;
 mod options;
 mod run;
 mod session;
+mod stretch;
 
 use std::env;
 use std::ffi::OsString;

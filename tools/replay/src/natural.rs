@@ -1,4 +1,4 @@
-//! Whole numbers of any size, as far as the ledger needs them.
+//! Whole numbers of any size, as far as the stretch needs them.
 
 use std::cmp::Ordering;
 

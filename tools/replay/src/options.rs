@@ -12,9 +12,10 @@ line with the column 0:
   1, num, den                reading                0, the load's four sides, the sum of steps,
                                                     exact
   2, num, den                cut, left piece kept   0, the degree, the rectangles of the left piece,
-                                                    then of the right, exact
+                                                    then of the right, the sum of steps, exact
   3, num, den                cut, right piece kept  the same
-  4                          raising                0, the new degree, its rectangles, exact
+  4                          raising                0, the new degree, its rectangles, the sum of
+                                                    steps, exact
   5                          bounds                 0, four sides
   6, four box sides, depth,  walk over a box        0, verdict (1 Inside, 2 Outside, 3 Spent,
   budget                                            4 Undecided), depth, index, count
@@ -24,13 +25,17 @@ line with the column 0:
   then a line for each                              its setting number
   record: four box sides,
   setting number
+  9, sum                     the curve's sum of     0, the sum
+                             steps set, 0 to 65535
 
 Reading 1 rounds every stage; reading 7, for j from 0 to 16, rounds the whole sum once. Exact is 1 where
 the call rounded nothing, and 0 where it rounded some side. A box's low sides lie inside it and its high
 sides outside: a high side is the first value not allowed. Call 8 makes the walk of call 6 over each
 record's box in turn, each with the whole budget, and chooses the first that ends Inside; a setting
-number is 0 to 65535. A card answers 0 and its degree, and a refusal its number and place. A card or a
-call that is malformed or cut short ends the run with 99 and the offset of its first byte.
+number is 0 to 65535. A card's curve has the sum of steps 0. A cut adds the degree to it, a raising 1, and
+a reading shows it with the degree added. Where it would pass 65535, a cut, a raising, a walk or a choice
+is refused with 17. A card answers 0 and its degree, and a refusal its number and place. A card or a call
+that is malformed or cut short ends the run with 99 and the offset of its first byte.
 
   --places  put two spaces and the place on the starting curve behind each accepted reading, as
             upper/lower in lowest terms, where both have at most 20 digits

@@ -1,12 +1,12 @@
-//! A case as it runs: the curve that is left, its ledger, and the answer to each call.
+//! A case as it runs: the curve that is left, the stretch that it covers, and the answer to each call.
 
 use jusqani::{
     Choice, Curve, Elevation, Evaluation, Rect, Refusal, Setting, Subdivision, Verdict, SIXTEENTHS,
 };
 
 use crate::call::Call;
-use crate::columns::{capped, columns_of};
-use crate::ledger::{Kept, Ledger, Place};
+use crate::columns::columns_of;
+use crate::stretch::{Kept, Place, Stretch};
 
 /// The numbers of an answer, and the place of an accepted reading where it is shown.
 #[derive(PartialEq, Debug)]
@@ -37,10 +37,10 @@ impl Answer {
     }
 }
 
-/// What a case holds between two lines.
+/// What a case holds between two lines. The stretch is there where places are asked for.
 pub struct Session {
     curve: Curve,
-    ledger: Ledger,
+    stretch: Option<Stretch>,
 }
 
 impl Session {
@@ -53,7 +53,7 @@ impl Session {
         });
         let session = Session {
             curve: read.unwrap_or_default(),
-            ledger: Ledger::open(places),
+            stretch: places.then(Stretch::whole),
         };
         (session, answer)
     }
@@ -76,6 +76,7 @@ impl Session {
                 depth,
                 budget,
             } => self.choose_setting(&settings, depth, budget),
+            Call::SetSum { sum } => Ok(self.set_sum(sum)),
         };
         answer.unwrap_or_else(Answer::refused)
     }
@@ -90,19 +91,22 @@ impl Session {
         Ok(self.reading(read, j, SIXTEENTHS))
     }
 
-    /// The answer of either reading at num/den, an accepted parameter.
+    /// The answer of either reading at num/den, an accepted parameter. Its sum of steps is the curve's plus the
+    /// degree.
     fn reading(&self, read: Evaluation, num: u32, den: u32) -> Answer {
         let mut numbers = vec![0];
         numbers.extend(sides(&[read.load]));
-        numbers.push(capped(self.ledger.sum(self.curve.degree)));
+        numbers.push(i64::from(self.curve.sum) + i64::from(self.curve.degree));
         numbers.push(read.exact.into());
-        let place = self.ledger.place(num, den);
+        let place = self.stretch.as_ref().and_then(|s| s.place(num, den));
         Answer { numbers, place }
     }
 
     fn subdivide(&mut self, num: u32, den: u32, kept: Kept) -> Result<Answer, Refusal> {
         let Subdivision { left, right, exact } = self.curve.subdivide(num, den)?;
-        self.ledger.cut(self.curve.degree, num, den, kept);
+        if let Some(stretch) = &mut self.stretch {
+            stretch.cut(num, den, kept);
+        }
         self.curve = match kept {
             Kept::Left => left,
             Kept::Right => right,
@@ -110,16 +114,18 @@ impl Session {
         let mut numbers = vec![0, left.degree.into()];
         numbers.extend(sides(left.control_points()));
         numbers.extend(sides(right.control_points()));
+        // Both pieces have the same sum.
+        numbers.push(left.sum.into());
         numbers.push(exact.into());
         Ok(Answer::of(numbers))
     }
 
     fn elevate(&mut self) -> Result<Answer, Refusal> {
         let Elevation { curve, exact } = self.curve.elevate()?;
-        self.ledger.raise();
         self.curve = curve;
         let mut numbers = vec![0, curve.degree.into()];
         numbers.extend(sides(curve.control_points()));
+        numbers.push(curve.sum.into());
         numbers.push(exact.into());
         Ok(Answer::of(numbers))
     }
@@ -163,6 +169,12 @@ impl Session {
         let mut numbers = vec![0];
         numbers.extend(choice);
         Ok(Answer::of(numbers))
+    }
+
+    /// Gives the curve another sum of steps, whatever curve it is.
+    fn set_sum(&mut self, sum: u16) -> Answer {
+        self.curve.sum = sum;
+        Answer::of(vec![0, sum.into()])
     }
 }
 
@@ -209,9 +221,11 @@ mod tests {
             budget: 1,
         };
         assert_eq!(numbers(&mut session, search), [0, 1, 0, 0, 1]);
-        let pieces = [0, 1, 0, 1, -3, -3, 0, 2, -2, 0, 0, 2, -2, 0, 1, 3, 0, 2, 0];
+        let pieces = [
+            0, 1, 0, 1, -3, -3, 0, 2, -2, 0, 0, 2, -2, 0, 1, 3, 0, 2, 1, 0,
+        ];
         assert_eq!(numbers(&mut session, subdivide(1, 2, Kept::Left)), pieces);
-        let raised = [0, 2, 0, 1, -3, -3, 0, 2, -3, -1, 0, 2, -2, 0, 0];
+        let raised = [0, 2, 0, 1, -3, -3, 0, 2, -3, -1, 0, 2, -2, 0, 2, 0];
         assert_eq!(numbers(&mut session, Call::Elevate), raised);
         assert_eq!(
             numbers(&mut session, evaluate(0, 1)),
@@ -232,7 +246,7 @@ mod tests {
         }
     }
 
-    /// The load goes up to 3. A chosen setting leaves the curve and its ledger as they were.
+    /// The load goes up to 3. A chosen setting leaves the curve and its sum as they were.
     #[test]
     fn chooses_a_setting() {
         let (mut session, _) = Session::open(CARD, false);
@@ -261,13 +275,13 @@ mod tests {
         let (mut session, _) = Session::open(card, false);
         assert_eq!(numbers(&mut session, evaluate(1, 2)), [0, 2, 2, 0, 0, 1, 1]);
         assert_eq!(numbers(&mut session, evaluate(1, 3)), [0, 1, 2, 0, 0, 1, 0]);
-        let pieces = [0, 1, 0, 0, 0, 0, 2, 2, 0, 0, 2, 2, 0, 0, 4, 4, 0, 0, 1];
+        let pieces = [0, 1, 0, 0, 0, 0, 2, 2, 0, 0, 2, 2, 0, 0, 4, 4, 0, 0, 1, 1];
         assert_eq!(numbers(&mut session, subdivide(1, 2, Kept::Left)), pieces);
-        let raised = [0, 2, 0, 0, 0, 0, 1, 1, 0, 0, 2, 2, 0, 0, 1];
+        let raised = [0, 2, 0, 0, 0, 0, 1, 1, 0, 0, 2, 2, 0, 0, 2, 1];
         assert_eq!(numbers(&mut session, Call::Elevate), raised);
     }
 
-    /// Values 1, 0, 3 at 8/16: [1, 1] by one sum and [0, 2] by stages, both within the ledger's two steps.
+    /// Values 1, 0, 3 at 8/16: [1, 1] by one sum and [0, 2] by stages, both within two steps.
     #[test]
     fn reads_a_sixteenth_by_one_sum() {
         let card = b"         2
@@ -321,6 +335,80 @@ mod tests {
             assert_eq!(numbers(&mut session, call), [1, 0]);
         }
         assert_eq!(numbers(&mut session, list(&[], 0)), [16, 0]);
+        assert_eq!(numbers(&mut session, set_sum(5)), [0, 5]);
+        assert_eq!(numbers(&mut session, Call::Elevate), [1, 0]);
+    }
+
+    fn set_sum(sum: u16) -> Call {
+        Call::SetSum { sum }
+    }
+
+    /// The last number but one of an answer, the sum of steps.
+    fn sum_of(session: &mut Session, call: Call) -> i64 {
+        let numbers = numbers(session, call);
+        numbers[numbers.len() - 2]
+    }
+
+    /// A line of degree 1 is cut, raised to degree 2 and cut again, and the readings add the degree at hand.
+    #[test]
+    fn shows_the_sum_of_the_curve() {
+        let (mut session, _) = Session::open(CARD, false);
+        assert_eq!(sum_of(&mut session, evaluate(1, 2)), 1);
+        assert_eq!(sum_of(&mut session, subdivide(1, 2, Kept::Left)), 1);
+        assert_eq!(sum_of(&mut session, Call::Elevate), 2);
+        assert_eq!(sum_of(&mut session, subdivide(1, 2, Kept::Right)), 4);
+        let sixteenths = Call::EvaluateSixteenths { j: 16 };
+        assert_eq!(sum_of(&mut session, sixteenths), 6);
+        assert_eq!(numbers(&mut session, set_sum(65_533)), [0, 65_533]);
+        assert_eq!(sum_of(&mut session, evaluate(1, 2)), 65_535);
+        assert_eq!(sum_of(&mut session, subdivide(1, 2, Kept::Left)), 65_535);
+        assert_eq!(sum_of(&mut session, evaluate(1, 2)), 65_537);
+    }
+
+    /// 9,362 cuts of degree 7 leave one step, which a raising takes.
+    #[test]
+    fn reaches_the_end_of_the_sum_by_cuts() {
+        let rectangle = columns_of(&[0; 4]);
+        let card = format!(
+            "{}\n{}",
+            columns_of(&[7]),
+            format!("{rectangle}\n").repeat(8)
+        );
+        let (mut session, _) = Session::open(card.as_bytes(), false);
+        for cuts in 1..=9_362 {
+            assert_eq!(sum_of(&mut session, subdivide(1, 2, Kept::Left)), 7 * cuts);
+        }
+        assert_eq!(numbers(&mut session, subdivide(1, 2, Kept::Left)), [17, 0]);
+        assert_eq!(sum_of(&mut session, Call::Elevate), 65_535);
+        assert_eq!(sum_of(&mut session, evaluate(1, 2)), 65_543);
+        assert_eq!(numbers(&mut session, Call::Elevate), [6, 0]);
+        assert_eq!(numbers(&mut session, subdivide(1, 2, Kept::Left)), [17, 0]);
+    }
+
+    /// A curve whose sum has no room left is read and not cut, and stays as it was, its place too.
+    #[test]
+    fn goes_on_after_a_sum_past_its_end() {
+        let (mut session, _) = Session::open(CARD, true);
+        session.answer(subdivide(1, 2, Kept::Right));
+        let before = numbers(&mut session, evaluate(1, 2));
+        assert_eq!(numbers(&mut session, set_sum(u16::MAX)), [0, 65_535]);
+        let walk = Call::Search {
+            limits: [0, 4, -3, 3].into(),
+            depth: 1,
+            budget: 1,
+        };
+        for call in [
+            subdivide(1, 2, Kept::Left),
+            Call::Elevate,
+            walk,
+            list(&[4], 1),
+        ] {
+            assert_eq!(numbers(&mut session, call), [17, 0]);
+        }
+        assert_eq!(numbers(&mut session, set_sum(1)), [0, 1]);
+        assert_eq!(numbers(&mut session, evaluate(1, 2)), before);
+        let read = session.answer(evaluate(1, 2)).line();
+        assert!(read.ends_with("         2         0  3/4\n"), "{read}");
     }
 
     #[test]

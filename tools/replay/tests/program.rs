@@ -17,6 +17,10 @@ const DIPOLE_ANSWERS: &str = include_str!("dipole_answers");
 const DIPOLE_SETTINGS: &str = include_str!("../../../examples/dipole_settings.calls");
 const DIPOLE_SETTINGS_ANSWERS: &str = include_str!("dipole_settings_answers");
 
+/// The sum of steps over a cut, a raising and readings, and up to where it is refused.
+const SUM_OF_STEPS: &str = include_str!("../../../examples/sum_of_steps.calls");
+const SUM_OF_STEPS_ANSWERS: &str = include_str!("sum_of_steps_answers");
+
 const CARD: &str = "         1
          0         1        -3        -3
          1         3         0         2
@@ -84,10 +88,12 @@ fn runs_to_the_end() {
     expect(&run(&[], DIPOLE), 0, DIPOLE_ANSWERS, "");
     let chosen = run(&[], DIPOLE_SETTINGS);
     expect(&chosen, 0, DIPOLE_SETTINGS_ANSWERS, "");
+    let summed = run(&[], SUM_OF_STEPS);
+    expect(&summed, 0, SUM_OF_STEPS_ANSWERS, "");
 }
 
 /// A fourth line behind the card, the column where it is wrong, and the words for it.
-const FAULTS: [(&str, usize, &str); 6] = [
+const FAULTS: [(&str, usize, &str); 7] = [
     (
         "         4\r\n",
         11,
@@ -111,7 +117,12 @@ const FAULTS: [(&str, usize, &str); 6] = [
     (
         "        12\n",
         1,
-        "12 is no call: 1 to 8 are the calls, and 0 ends a case",
+        "12 is no call: 1 to 9 are the calls, and 0 ends a case",
+    ),
+    (
+        "         9     65536\n",
+        11,
+        "the sum of steps is 65536, which is not 0 to 65535",
     ),
     (
         "         5",

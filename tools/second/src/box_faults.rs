@@ -9,9 +9,9 @@ pub const BOX_FAULTS: [(&str, Row, Door); 4] = [
         "a box with its high resistance",
         Row::Search,
         Door {
-            search: |degree, sides, limits, depth, budget, verdict| {
+            search: |degree, sum, sides, limits, depth, budget, verdict| {
                 let limits = moved(limits, 1, |low, high| low < high && high < MAX_SIDE);
-                (MODEL.search)(degree, sides, &limits, depth, budget, verdict)
+                (MODEL.search)(degree, sum, sides, &limits, depth, budget, verdict)
             },
             ..MODEL
         },
@@ -20,9 +20,9 @@ pub const BOX_FAULTS: [(&str, Row, Door); 4] = [
         "a box with its high reactance",
         Row::Search,
         Door {
-            search: |degree, sides, limits, depth, budget, verdict| {
+            search: |degree, sum, sides, limits, depth, budget, verdict| {
                 let limits = moved(limits, 3, |low, high| low < high && high < MAX_SIDE);
-                (MODEL.search)(degree, sides, &limits, depth, budget, verdict)
+                (MODEL.search)(degree, sum, sides, &limits, depth, budget, verdict)
             },
             ..MODEL
         },
@@ -31,9 +31,9 @@ pub const BOX_FAULTS: [(&str, Row, Door); 4] = [
         "a box without its low resistance",
         Row::Search,
         Door {
-            search: |degree, sides, limits, depth, budget, verdict| {
+            search: |degree, sum, sides, limits, depth, budget, verdict| {
                 let limits = moved(limits, 0, |low, high| low + 1 < high);
-                (MODEL.search)(degree, sides, &limits, depth, budget, verdict)
+                (MODEL.search)(degree, sum, sides, &limits, depth, budget, verdict)
             },
             ..MODEL
         },
@@ -42,9 +42,9 @@ pub const BOX_FAULTS: [(&str, Row, Door); 4] = [
         "an empty box taken for one a step wide",
         Row::Search,
         Door {
-            search: |degree, sides, limits, depth, budget, verdict| {
+            search: |degree, sum, sides, limits, depth, budget, verdict| {
                 let limits = moved(limits, 3, |low, high| low == high && high < MAX_SIDE);
-                (MODEL.search)(degree, sides, &limits, depth, budget, verdict)
+                (MODEL.search)(degree, sum, sides, &limits, depth, budget, verdict)
             },
             ..MODEL
         },

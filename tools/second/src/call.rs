@@ -11,7 +11,18 @@ pub enum Kept {
     Right,
 }
 
-/// A call; the paper's names are reading, second reading, cut, raising, span, walk and fitted list.
+impl Kept {
+    /// The piece that is kept.
+    pub fn of<T>(self, [left, right]: [T; 2]) -> T {
+        match self {
+            Kept::Left => left,
+            Kept::Right => right,
+        }
+    }
+}
+
+/// A call; the paper's names are reading, second reading, cut, raising, span, walk and fitted list. The last
+/// one is a line of `replay` alone.
 #[derive(Clone, PartialEq, Debug)]
 pub enum Call {
     Evaluate(Parameter),
@@ -22,4 +33,6 @@ pub enum Call {
     Bounds,
     Search(Search),
     ChooseSetting(Settings),
+    /// Puts another sum of steps into the curve's record.
+    SetSum(u16),
 }

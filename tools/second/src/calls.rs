@@ -8,7 +8,8 @@ use crate::model::{
     low_above_high, out_of_range, Flagged, Parameter, Rectangle, MAX_DEGREE, MAX_SIDE,
 };
 use crate::search::{empty_coordinates, have_no_common_point, lies_in, Search};
-use crate::trial::{Counted, Outcome, Trial, SPARE};
+use crate::steps::SumCall;
+use crate::trial::{is_short, Counted, Outcome, Trial, SPARE};
 use std::cmp::Ordering;
 
 /// The room for a buffer of a rectangle or a verdict, and for one of a curve.
@@ -130,14 +131,17 @@ impl Trial<'_> {
         let mut left: Lent<i32, CURVE_ROOM> = self.lend("left", needed);
         let mut right: Lent<i32, CURVE_ROOM> = self.lend("right", needed);
         let mut exact = LentNumber::new("exact", self.rng);
-        let (degree, sides, Parameter { num, den }) = (given.degree, given.sides(), t);
+        let (degree, sum, sides) = given.parts();
+        let Parameter { num, den } = t;
         let (up_to, from, flag) = (left.expected(), right.expected(), exact.expected());
-        let expected = (MODEL.subdivide)(degree, sides, num, den, up_to, from, flag);
+        let expected = (MODEL.subdivide)(degree, sum, sides, num, den, up_to, from, flag);
         let (up_to, from, flag) = (left.came(), right.came(), exact.came());
-        let came = (self.door.subdivide)(degree, sides, num, den, up_to, from, flag);
+        let came = (self.door.subdivide)(degree, sum, sides, num, den, up_to, from, flag);
         let input = || format!("{given}\nat {num}/{den}");
         let buffers: [&dyn Compared; 3] = [&left, &right, &exact];
         let outcome = self.finish(&SUBDIVIDE, [expected, came], needed, &buffers, input)?;
+        let short = is_short(needed, &buffers);
+        self.count_sum(SumCall::Cut, given, &outcome, short);
         Ok(outcome.map(|()| {
             self.count_given(given);
             self.count_parameter(Line::SubdivideAt, t);
@@ -154,12 +158,14 @@ impl Trial<'_> {
         let needed = curve_length(MAX_DEGREE.min(given.near_degree() + 1));
         let mut raised: Lent<i32, CURVE_ROOM> = self.lend("raised", needed);
         let mut exact = LentNumber::new("exact", self.rng);
-        let (degree, sides) = (given.degree, given.sides());
-        let expected = (MODEL.elevate)(degree, sides, raised.expected(), exact.expected());
-        let came = (self.door.elevate)(degree, sides, raised.came(), exact.came());
+        let (degree, sum, sides) = given.parts();
+        let expected = (MODEL.elevate)(degree, sum, sides, raised.expected(), exact.expected());
+        let came = (self.door.elevate)(degree, sum, sides, raised.came(), exact.came());
         let input = || given.to_string();
         let buffers: [&dyn Compared; 2] = [&raised, &exact];
         let outcome = self.finish(&ELEVATE, [expected, came], needed, &buffers, input)?;
+        let short = is_short(needed, &buffers);
+        self.count_sum(SumCall::Raising, given, &outcome, short);
         Ok(outcome.map(|()| {
             self.count_given(given);
             let exact = exact.left() == EXACT;
@@ -186,12 +192,16 @@ impl Trial<'_> {
         let (limits, lent) = self.limits(search);
         let limits = &limits[..lent];
         let mut verdict: Lent<u32, RECT_ROOM> = self.lend("verdict", FOUR);
-        let (degree, sides) = (given.degree, given.sides());
+        let (degree, sum, sides) = given.parts();
         let Search { depth, budget, .. } = *search;
-        let expected = (MODEL.search)(degree, sides, limits, depth, budget, verdict.expected());
-        let came = (self.door.search)(degree, sides, limits, depth, budget, verdict.came());
+        let to = verdict.expected();
+        let expected = (MODEL.search)(degree, sum, sides, limits, depth, budget, to);
+        let to = verdict.came();
+        let came = (self.door.search)(degree, sum, sides, limits, depth, budget, to);
         let input = || format!("{given}\nlimits {limits:?}, depth {depth}, budget {budget}");
         let outcome = self.finish(&SEARCH, [expected, came], FOUR, &[&verdict], input)?;
+        let short = is_short(FOUR, &[&verdict]);
+        self.count_sum(SumCall::Walk { depth }, given, &outcome, short);
         let limits = given_limits(limits);
         match outcome {
             Ok(()) => {
@@ -200,6 +210,8 @@ impl Trial<'_> {
                 self.tally.cover(Line::SearchDepth, depth as usize);
                 self.count_edges(given, &limits);
                 self.count_verdict(verdict.left());
+                let again = Search { limits, ..*search };
+                self.try_walk_without_sum(given, &again, verdict.left())?;
                 self.try_verdict(given, &limits, verdict.left())
             }
             Err(number) => {

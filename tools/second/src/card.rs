@@ -62,7 +62,7 @@ pub const fn card_length(degree: usize) -> usize {
     FIRST_LINE + LINE * (degree + 1)
 }
 
-/// The card of a curve, whose sides may be out of range.
+/// The card of a curve, whose sides may be out of range. It has no sum of steps.
 pub fn card_of(curve: &Curve) -> Vec<u8> {
     let mut card = Vec::with_capacity(card_length(curve.degree));
     write_line(&[curve.degree as i64], &mut card);
@@ -100,7 +100,7 @@ pub fn degree_of(card: &[u8]) -> Result<usize, Refusal> {
     Ok(degree as usize)
 }
 
-/// The curve of a card, or the card's refusal.
+/// The curve of a card, which has a sum of 0, or the card's refusal.
 pub fn curve_of(card: &[u8]) -> Result<Curve, Refusal> {
     let mut curve = Curve::ZERO;
     curve.degree = degree_of(card)?;
@@ -134,6 +134,7 @@ mod tests {
         let curve = curve_of(CARD).unwrap();
         assert_eq!(curve, Curve::new(&[[0, 1, -3, -3], [1, 3, 0, 2]]));
         assert_eq!(card_of(&curve), CARD);
+        assert_eq!(card_of(&curve.with_sum(9)), CARD);
         assert_eq!((card_length(1), card_length(8)), (93, 380));
     }
 

@@ -175,7 +175,7 @@ mod tests {
             ([&CARD[..92], b" "].concat(), Kind::Refused),
         ];
         for (card, kind) in kinds {
-            let (number, _) = number_and_place((MODEL.read_card)(&card, &mut [0; 9]));
+            let (number, _) = number_and_place((MODEL.read_card)(&card, &mut [0; 10]));
             assert_eq!(kind_of(&card, number), kind);
         }
     }

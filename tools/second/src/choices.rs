@@ -1,6 +1,7 @@
 //! Lists of settings that the choice is compared on: of every length, with the first that fits at every place,
 //! with bad boxes at every place and of every kind, and with whole budgets.
 
+use crate::door::choice_of;
 use crate::draw::{self, NO_BOUNDS};
 use crate::given::Given;
 use crate::model::{Curve, Rectangle};
@@ -26,7 +27,10 @@ pub fn compare_planned(trial: &mut Trial, degree: usize, length: usize) -> Resul
 pub fn compare(trial: &mut Trial, given: &Given, settings: &Settings) -> Result<(), String> {
     let outcome = trial.choose_setting(given, settings)?;
     match outcome {
-        Ok(chosen) => trial.try_choice(given, settings, chosen),
+        Ok(chosen) => {
+            trial.try_list_without_sum(given, settings, &choice_of(chosen))?;
+            trial.try_choice(given, settings, chosen)
+        }
         Err(_) => Ok(()),
     }
 }

@@ -8,7 +8,8 @@ use crate::lent_list::LentList;
 use crate::records::{way_of, NO_BOXES, REFUSED_BUDGETS, REFUSED_DEPTHS, REFUSED_LENGTHS};
 use crate::search::{check_effort, lies_in, MAX_BUDGET, MAX_DEPTH};
 use crate::settings::{Chosen, Settings};
-use crate::trial::{Counted, Outcome, Trial, SPARE};
+use crate::steps::SumCall;
+use crate::trial::{is_short, Counted, Outcome, Trial, SPARE};
 
 const CHOOSE: Counted = Counted {
     row: Row::ChooseSetting,
@@ -34,15 +35,17 @@ impl Trial<'_> {
     ) -> Result<Outcome<Option<Chosen>>, String> {
         let list = LentList::new(settings);
         let mut choice: Lent<u32, { CHOICE + SPARE + BEHIND }> = self.lend("choice", CHOICE);
-        let (degree, sides) = (given.degree, given.sides());
+        let (degree, sum, sides) = given.parts();
         let Settings { depth, budget, .. } = *settings;
         let (lent, to) = (list.lent(), choice.expected());
-        let expected = (MODEL.choose_setting)(degree, sides, lent, depth, budget, to);
+        let expected = (MODEL.choose_setting)(degree, sum, sides, lent, depth, budget, to);
         let to = choice.came();
-        let came = (self.door.choose_setting)(degree, sides, lent, depth, budget, to);
+        let came = (self.door.choose_setting)(degree, sum, sides, lent, depth, budget, to);
         let input = || format!("{given}\n{settings:?}");
         let buffers: [&dyn Compared; 2] = [&choice, &list];
         let outcome = self.finish(&CHOOSE, [expected, came], CHOICE, &buffers, input)?;
+        let short = is_short(CHOICE, &buffers);
+        self.count_sum(SumCall::FittedList { depth }, given, &outcome, short);
         let outcome = outcome.map(|()| chosen(choice.left()));
         match &outcome {
             Ok(chosen) => self.count_choice(given, settings, *chosen),

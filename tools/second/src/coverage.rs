@@ -2,6 +2,7 @@
 //! quietly leave something out.
 
 use crate::settings_coverage::SETTINGS;
+use crate::sum_coverage::SUMS;
 use Line::*;
 use Row::*;
 use Values::*;
@@ -23,6 +24,11 @@ pub enum Row {
     SettingAppended,
     SettingSwapped,
     SettingLoads,
+    SumByLedger,
+    WalkWithoutSum,
+    ListWithoutSum,
+    ReachedPoints,
+    SavedAgain,
     NoCarrier,
     RandomLoads,
     RandomSpreads,
@@ -53,11 +59,13 @@ pub enum Row {
     ReplayDamaged,
     ReplayRecords,
     ReplayLong,
+    ReplaySet,
+    ReplayWorn,
     ReplaySlow,
 }
 
 /// Each row's name, and how many comparisons must agree.
-pub const ROWS: [(Row, &str, u64); 45] = [
+pub const ROWS: [(Row, &str, u64); 52] = [
     (Evaluate, "evaluate", 2_000_000),
     (Sixteenths, "evaluate_sixteenths", 1_000_000),
     (SixteenthsSides, "sixteenths, exact fractions", 100_000),
@@ -72,6 +80,11 @@ pub const ROWS: [(Row, &str, u64); 45] = [
     (SettingAppended, "choose_setting, records behind", 15_000),
     (SettingSwapped, "choose_setting, two swapped", 10_000),
     (SettingLoads, "choose_setting, loads in the box", 20_000),
+    (SumByLedger, "sum of steps, by the ledger", 1_000_000),
+    (WalkWithoutSum, "search, as with a sum of 0", 20_000),
+    (ListWithoutSum, "choose_setting, with a sum of 0", 20_000),
+    (ReachedPoints, "sum of steps, exact fractions", 100_000),
+    (SavedAgain, "pieces saved and read again", 5_000),
     (NoCarrier, "enclose, no carrier", 2_000_000),
     (RandomLoads, "enclose, loads, any bits", 2_000_000),
     (RandomSpreads, "enclose, with spread, any bits", 2_000_000),
@@ -97,11 +110,13 @@ pub const ROWS: [(Row, &str, u64); 45] = [
     (CardLong, "card, long input", 5),
     (CardPlaces, "card, every place of a refusal", 76),
     (CardSlow, "card, slow pipe", 16),
-    (ReplayExamples, "replay, examples", 24),
+    (ReplayExamples, "replay, examples", 27),
     (ReplayTexts, "replay, texts", 100),
     (ReplayDamaged, "replay, damaged texts", 500),
     (ReplayRecords, "replay, damaged lists of settings", 100),
     (ReplayLong, "replay, long texts", 1),
+    (ReplaySet, "replay, lines that set a sum", 18),
+    (ReplayWorn, "replay, up to the largest sum", 3),
     (ReplaySlow, "replay, slow pipe, answers", 50),
 ];
 
@@ -186,6 +201,29 @@ pub enum Line {
     SettingBehind,
     SettingAgain,
     SettingBoxLoads,
+    StartSums,
+    CutWithin,
+    CutBeyond,
+    CutBeside,
+    RaisingWithin,
+    RaisingBeyond,
+    RaisingBeside,
+    WalkWithin,
+    WalkBeyond,
+    WalkBeside,
+    ListWithin,
+    ListBeyond,
+    ListBeside,
+    SumShort,
+    AgainSums,
+    ClaimSums,
+    ClaimNoSums,
+    ReachedChanges,
+    ReachedRefusals,
+    ReachedSides,
+    SavedSums,
+    ReplaySums,
+    ReplayNoSum,
     MeasuredLent,
     NoCarrierNumbers,
     NoCarrierRect,
@@ -459,12 +497,12 @@ const ROUNDED: &str = "rounded by degree";
 const TRIVIAL: &str = "exact by degree, at 0 or 1 or of one rectangle";
 const EXACT: &str = "exact by degree, others";
 /// The refusals that a call has before it tries its buffers.
-const OTHERS: Values = These(&[1, 2, 3, 4, 5, 6, 7, 8, 9, 10, 11, 13, 14, 15, 16]);
+const OTHERS: Values = These(&[1, 2, 3, 4, 5, 6, 7, 8, 9, 10, 11, 13, 14, 15, 16, 17]);
 
 /// The lines by what they are about: what is counted, the values and how often each must come.
 pub type Group = (&'static str, &'static [(Line, &'static str, Values, u64)]);
 
-pub const GROUPS: [Group; 15] = [
+pub const GROUPS: [Group; 16] = [
     (
         "curves given",
         &[
@@ -575,12 +613,12 @@ pub const GROUPS: [Group; 15] = [
             (
                 SubdivideNumbers,
                 "answers",
-                These(&[0, 1, 2, 3, 4, 5, 12]),
+                These(&[0, 1, 2, 3, 4, 5, 12, 17]),
                 1_000,
             ),
             (SubdivideAt, "accepted at", AT, 10_000),
-            (SubdivideLeft, "left lent", Span(0, 41), 1_000),
-            (SubdivideRight, "right lent", Span(0, 41), 1_000),
+            (SubdivideLeft, "left lent", Span(0, 42), 1_000),
+            (SubdivideRight, "right lent", Span(0, 42), 1_000),
             (SubdivideRounded, ROUNDED, Span(1, 8), 50_000),
             (SubdivideTrivial, TRIVIAL, Span(1, 8), 20_000),
             (SubdivideExact, EXACT, Span(1, 8), 10_000),
@@ -592,10 +630,10 @@ pub const GROUPS: [Group; 15] = [
             (
                 ElevateNumbers,
                 "answers",
-                These(&[0, 1, 2, 3, 6, 12]),
+                These(&[0, 1, 2, 3, 6, 12, 17]),
                 1_000,
             ),
-            (ElevateRaised, "raised lent", Span(0, 41), 1_000),
+            (ElevateRaised, "raised lent", Span(0, 42), 1_000),
             (ElevateRounded, ROUNDED, Span(1, 7), 20_000),
             (
                 ElevateTrivial,
@@ -619,7 +657,7 @@ pub const GROUPS: [Group; 15] = [
             (
                 SearchNumbers,
                 "answers",
-                These(&[0, 1, 2, 3, 7, 8, 9, 12]),
+                These(&[0, 1, 2, 3, 7, 8, 9, 12, 17]),
                 1_000,
             ),
             (SearchVerdict, "verdict lent", Span(0, 8), 500),
@@ -635,6 +673,7 @@ pub const GROUPS: [Group; 15] = [
         ],
     ),
     SETTINGS,
+    SUMS,
     (
         "enclose",
         &[
@@ -705,7 +744,7 @@ pub const GROUPS: [Group; 15] = [
                 These(&[0, 1, 2, 3, 10, 11, 12]),
                 1_000,
             ),
-            (ReadCurve, "read, curve lent", Span(0, 41), 200),
+            (ReadCurve, "read, curve lent", Span(0, 42), 200),
             (ReadKinds, "read, cards", KINDS, 10_000),
             (ReadLengths, "read, places of 10", LENGTHS, 100),
             (ReadMalformed, "read, places of 11", MALFORMED, 500),

@@ -8,18 +8,22 @@ use crate::search::Search;
 use crate::settings::{Chosen, Record, Settings};
 use jusqani::Setting;
 
-/// A call on a curve at num/den, with two buffers for its result and the number for its exact flag.
-pub type AtParameter<T> = fn(u32, &[i32], u32, u32, &mut [i32], &mut [T], &mut u32) -> u64;
-/// A call on a curve at j/16, with the same as an evaluation.
+/// An evaluation: a degree and sides, num/den, two buffers for the load and the number for its exact flag.
+pub type AtParameter = fn(u32, &[i32], u32, u32, &mut [i32], &mut [f32], &mut u32) -> u64;
+/// The same at j/16.
 pub type AtSixteenth = fn(u32, &[i32], u32, &mut [i32], &mut [f32], &mut u32) -> u64;
-/// A call on a curve alone, with one buffer for its result.
+/// A subdivision: a degree, a sum of steps and sides, num/den, a buffer for each piece and the number for the
+/// exact flag.
+pub type Subdivide = fn(u32, u16, &[i32], u32, u32, &mut [i32], &mut [i32], &mut u32) -> u64;
+/// A call on a degree and sides alone, with one buffer for its result.
 pub type OnCurve<T> = fn(u32, &[i32], &mut [T]) -> u64;
-/// Such a call with the number for its exact flag.
-pub type Elevate = fn(u32, &[i32], &mut [i32], &mut u32) -> u64;
-/// A search: a curve, a box, depth and budget, and the buffer for the verdict.
-pub type OnBox = fn(u32, &[i32], &[i32], u32, u32, &mut [u32]) -> u64;
-/// A choice: a curve, a list of settings, depth and budget, and the buffer for what is chosen.
-pub type OnSettings = fn(u32, &[i32], &[Setting], u32, u32, &mut [u32]) -> u64;
+/// An elevation: a degree, a sum and sides, a buffer for the raised curve and the number for the exact flag.
+pub type Elevate = fn(u32, u16, &[i32], &mut [i32], &mut u32) -> u64;
+/// A search: a degree, a sum and sides, a box, depth and budget, and the buffer for the verdict.
+pub type OnBox = fn(u32, u16, &[i32], &[i32], u32, u32, &mut [u32]) -> u64;
+/// A choice: a degree, a sum and sides, a list of settings, depth and budget, and the buffer for what is
+/// chosen.
+pub type OnSettings = fn(u32, u16, &[i32], &[Setting], u32, u32, &mut [u32]) -> u64;
 
 /// What the bridge measured, the buffer for its rectangle, and the number for what was found.
 pub type OnMeasured = fn(&[f32], &mut [i32], &mut u32) -> u64;
@@ -27,9 +31,9 @@ pub type OnMeasured = fn(&[f32], &mut [i32], &mut u32) -> u64;
 /// The eleven calls, of the proved library or of the model.
 #[derive(Clone, Copy)]
 pub struct Door {
-    pub evaluate: AtParameter<f32>,
+    pub evaluate: AtParameter,
     pub evaluate_sixteenths: AtSixteenth,
-    pub subdivide: AtParameter<i32>,
+    pub subdivide: Subdivide,
     pub elevate: Elevate,
     pub bounds: OnCurve<i32>,
     pub search: OnBox,
@@ -69,21 +73,29 @@ pub const NONE_FITS: u32 = 2;
 pub const NO_CARRIER: u32 = 1;
 pub const RECTANGLE: u32 = 2;
 
-/// The numbers of a curve that a call gives: its degree, then its sides.
+/// How many numbers of a curve that a call gives stand before its sides: its degree and its sum of steps.
+pub const BEFORE_SIDES: usize = 2;
+
+/// The numbers of a curve that a call gives: its degree, its sum of steps, then its sides.
 pub const fn curve_length(degree: usize) -> usize {
-    1 + 4 * (degree + 1)
+    BEFORE_SIDES + 4 * (degree + 1)
 }
 
 /// The curve that a call is given: sides that the slice does not have count as zero, and sides past
 /// rectangle n are not read.
-pub fn given_curve(degree: u32, sides: &[i32]) -> Curve {
-    let mut curve = Curve::ZERO;
+pub fn given_curve(degree: u32, sum: u16, sides: &[i32]) -> Curve {
+    let mut curve = Curve::ZERO.with_sum(sum);
     curve.degree = degree as usize;
     let read = sides.iter().zip(curve.points.as_flattened_mut());
     for (side, place) in read.take(4 * (MAX_DEGREE.min(curve.degree) + 1)) {
         *place = (*side).into();
     }
     curve
+}
+
+/// The curve of a call that is given no sum, since it does not look at one.
+pub fn curve_without_sum(degree: u32, sides: &[i32]) -> Curve {
+    given_curve(degree, 0, sides)
 }
 
 /// The box that a search is given: sides that the slice does not have count as zero.
@@ -134,7 +146,9 @@ fn store(numbers: &[i64], buffer: &mut [i32]) {
 
 fn store_curve(curve: &Curve, buffer: &mut [i32]) {
     buffer[0] = curve.degree as i32;
-    store(curve.control_points().as_flattened(), &mut buffer[1..]);
+    buffer[1] = curve.sum.into();
+    let sides = curve.control_points().as_flattened();
+    store(sides, &mut buffer[BEFORE_SIDES..]);
 }
 
 fn evaluate(
@@ -146,7 +160,7 @@ fn evaluate(
     display: &mut [f32],
     exact: &mut u32,
 ) -> u64 {
-    let read = given_curve(degree, sides).evaluate(Parameter { num, den });
+    let read = curve_without_sum(degree, sides).evaluate(Parameter { num, den });
     answer(read.and_then(|read| store_reading(&read, load, display, exact)))
 }
 
@@ -158,7 +172,7 @@ fn evaluate_sixteenths(
     display: &mut [f32],
     exact: &mut u32,
 ) -> u64 {
-    let read = given_curve(degree, sides).evaluate_sixteenths(j);
+    let read = curve_without_sum(degree, sides).evaluate_sixteenths(j);
     answer(read.and_then(|read| store_reading(&read, load, display, exact)))
 }
 
@@ -176,8 +190,10 @@ fn store_reading(
     Ok(())
 }
 
+#[allow(clippy::too_many_arguments)] // As many as the header has, a slice counted once.
 fn subdivide(
     degree: u32,
+    sum: u16,
     sides: &[i32],
     num: u32,
     den: u32,
@@ -186,7 +202,7 @@ fn subdivide(
     exact: &mut u32,
 ) -> u64 {
     let mut result = || {
-        let curve = given_curve(degree, sides);
+        let curve = given_curve(degree, sum, sides);
         let pieces = curve.subdivide(Parameter { num, den })?;
         need(curve_length(curve.degree), &[left.len(), right.len()])?;
         let [up_to, from] = &pieces.result;
@@ -198,9 +214,9 @@ fn subdivide(
     answer(result())
 }
 
-fn elevate(degree: u32, sides: &[i32], raised: &mut [i32], exact: &mut u32) -> u64 {
+fn elevate(degree: u32, sum: u16, sides: &[i32], raised: &mut [i32], exact: &mut u32) -> u64 {
     let mut result = || {
-        let elevated = given_curve(degree, sides).elevate()?;
+        let elevated = given_curve(degree, sum, sides).elevate()?;
         need(curve_length(elevated.result.degree), &[raised.len()])?;
         store_curve(&elevated.result, raised);
         *exact = elevated.exact.into();
@@ -211,7 +227,7 @@ fn elevate(degree: u32, sides: &[i32], raised: &mut [i32], exact: &mut u32) -> u
 
 fn bounds(degree: u32, sides: &[i32], rect: &mut [i32]) -> u64 {
     let mut result = || {
-        let span = given_curve(degree, sides).bounds()?;
+        let span = curve_without_sum(degree, sides).bounds()?;
         need(FOUR, &[rect.len()])?;
         store(&span, rect);
         Ok(())
@@ -221,6 +237,7 @@ fn bounds(degree: u32, sides: &[i32], rect: &mut [i32]) -> u64 {
 
 fn search(
     degree: u32,
+    sum: u16,
     sides: &[i32],
     limits: &[i32],
     depth: u32,
@@ -233,7 +250,7 @@ fn search(
             depth,
             budget,
         };
-        let found = search.over(&given_curve(degree, sides))?;
+        let found = search.over(&given_curve(degree, sum, sides))?;
         need(FOUR, &[verdict.len()])?;
         verdict[..FOUR].copy_from_slice(&found);
         Ok(())
@@ -243,6 +260,7 @@ fn search(
 
 fn choose_setting(
     degree: u32,
+    sum: u16,
     sides: &[i32],
     settings: &[Setting],
     depth: u32,
@@ -255,7 +273,7 @@ fn choose_setting(
             depth,
             budget,
         };
-        let chosen = settings.choose(&given_curve(degree, sides))?;
+        let chosen = settings.choose(&given_curve(degree, sum, sides))?;
         need(CHOICE, &[choice.len()])?;
         choice[..CHOICE].copy_from_slice(&choice_of(chosen));
         Ok(())
@@ -297,7 +315,7 @@ fn read_card(card: &[u8], curve: &mut [i32]) -> u64 {
 
 fn write_card(degree: u32, sides: &[i32], card: &mut [u8]) -> u64 {
     let mut result = || {
-        let curve = given_curve(degree, sides);
+        let curve = curve_without_sum(degree, sides);
         curve.check()?;
         let length = card_length(curve.degree);
         need(length, &[card.len()])?;

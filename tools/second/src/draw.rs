@@ -3,7 +3,7 @@
 use crate::call::{Call, Kept};
 use crate::given::{Given, MAX_SIDES};
 use crate::grid::Grid;
-use crate::model::{Curve, Parameter, Rectangle, MAX_DEGREE, MAX_DEN, MAX_SIDE};
+use crate::model::{Curve, Parameter, Rectangle, MAX_DEGREE, MAX_DEN, MAX_SIDE, MAX_SUM};
 use crate::records;
 use crate::rng::Rng;
 use crate::search::{Search, MAX_BUDGET, MAX_DEPTH};
@@ -105,8 +105,9 @@ pub fn given(rng: &mut Rng, degree: usize, grid: Option<Grid>) -> Given {
     given_of(rng, curve)
 }
 
-/// The same from an accepted curve.
+/// The same from an accepted curve, which gets a sum of steps.
 pub fn given_of(rng: &mut Rng, mut curve: Curve) -> Given {
+    curve.sum = sum(rng, curve.degree);
     if rng.one_in(12) {
         spoil(rng, &mut curve, &TOO_FAR_FOR_A_CALL);
     }
@@ -120,6 +121,23 @@ pub fn given_of(rng: &mut Rng, mut curve: Curve) -> Given {
         _ => {}
     }
     given
+}
+
+/// A sum of steps: mostly 0 or a few; one in sixteen is such that calls on a curve of this degree just reach
+/// the largest sum or would pass it.
+pub fn sum(rng: &mut Rng, degree: usize) -> u16 {
+    match rng.below(16) {
+        0..=8 => 0,
+        9..=12 => rng.up_to(255) as u16,
+        13 | 14 => rng.draw() as u16,
+        _ => large_sum(rng, degree),
+    }
+}
+
+/// A sum to which a few cuts of a curve of this degree add up to about the largest.
+pub fn large_sum(rng: &mut Rng, degree: usize) -> u16 {
+    let before = degree * rng.up_to(MAX_DEPTH as usize);
+    (MAX_SUM - before + rng.up_to(2)).min(MAX_SUM) as u16
 }
 
 /// Puts sides behind those of the curve, mostly such as would be refused.
@@ -161,7 +179,7 @@ pub fn parameter(rng: &mut Rng) -> Parameter {
     Parameter { num, den }
 }
 
-fn refused_parameter(rng: &mut Rng) -> Parameter {
+pub fn refused_parameter(rng: &mut Rng) -> Parameter {
     let den = rng.between(1, MAX_DEN.into()) as u32;
     let (num, den) = rng.pick(&[
         (0, 0),
@@ -225,7 +243,7 @@ fn call(rng: &mut Rng, bounds: &Rectangle, grid: Option<Grid>) -> Call {
 }
 
 /// A call that leaves another curve than it got, unless it is refused.
-fn changing_call(rng: &mut Rng, grid: Option<Grid>) -> Call {
+pub fn changing_call(rng: &mut Rng, grid: Option<Grid>) -> Call {
     match rng.below(3) {
         0 => Call::Subdivide(parameter_on(rng, grid), Kept::Left),
         1 => Call::Subdivide(parameter_on(rng, grid), Kept::Right),

@@ -99,21 +99,22 @@ impl Trial<'_> {
 
     /// The verdict of the library's search over one record's box.
     fn verdict(&self, given: &Given, settings: &Settings, record: &Record) -> [u32; FOUR] {
-        let (degree, sides) = (given.degree, given.sides());
+        let (degree, sum, sides) = given.parts();
         let limits = record.limits.map(|side| side as i32);
         let Settings { depth, budget, .. } = *settings;
         let mut verdict = [0; FOUR];
-        (self.door.search)(degree, sides, &limits, depth, budget, &mut verdict);
+        (self.door.search)(degree, sum, sides, &limits, depth, budget, &mut verdict);
         verdict
     }
 
     /// The library's choice from other records.
     fn choice_from(&self, given: &Given, settings: &Settings, records: &[Record]) -> Answer {
         let list: Vec<Setting> = records.iter().map(setting_of).collect();
-        let (degree, sides) = (given.degree, given.sides());
+        let (degree, sum, sides) = given.parts();
         let Settings { depth, budget, .. } = *settings;
         let mut choice = [0; CHOICE];
-        let answer = (self.door.choose_setting)(degree, sides, &list, depth, budget, &mut choice);
+        let to = &mut choice;
+        let answer = (self.door.choose_setting)(degree, sum, sides, &list, depth, budget, to);
         (answer, choice)
     }
 
@@ -275,22 +276,22 @@ mod tests {
     fn finds_what_other_records_must_not_decide() {
         let boxes = [FITS, BESIDE, [0, 6, 0, 1]];
         // From the end of the list.
-        let last: OnSettings = |degree, sides, list, depth, budget, choice| {
+        let last: OnSettings = |degree, sum, sides, list, depth, budget, choice| {
             let list: Vec<Setting> = list.iter().rev().copied().collect();
-            (MODEL.choose_setting)(degree, sides, &list, depth, budget, choice)
+            (MODEL.choose_setting)(degree, sum, sides, &list, depth, budget, choice)
         };
         assert_eq!(agrees(last, &boxes, Some(0)), [true, false, false]);
         // Every list sorted by its numbers.
-        let sorted: OnSettings = |degree, sides, list, depth, budget, choice| {
+        let sorted: OnSettings = |degree, sum, sides, list, depth, budget, choice| {
             let mut list = list.to_vec();
             list.sort_by_key(|setting| setting.number);
-            (MODEL.choose_setting)(degree, sides, &list, depth, budget, choice)
+            (MODEL.choose_setting)(degree, sum, sides, &list, depth, budget, choice)
         };
         assert!(!agrees(sorted, &boxes, Some(0))[2]);
         // No limit to the length.
-        let long: OnSettings = |degree, sides, list, depth, budget, choice| {
+        let long: OnSettings = |degree, sum, sides, list, depth, budget, choice| {
             let list = &list[..list.len().min(MAX_RECORDS)];
-            (MODEL.choose_setting)(degree, sides, list, depth, budget, choice)
+            (MODEL.choose_setting)(degree, sum, sides, list, depth, budget, choice)
         };
         assert_eq!(agrees(long, &boxes, Some(0)), [true, false, true]);
     }

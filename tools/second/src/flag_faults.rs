@@ -1,7 +1,7 @@
 //! Faults of the exact flag, one each.
 
 use crate::coverage::Row;
-use crate::door::{given_curve, Door, MODEL};
+use crate::door::{curve_without_sum, Door, MODEL};
 use crate::model::{Curve, Parameter};
 use crate::trial::{number_and_place, SHORT};
 
@@ -12,7 +12,7 @@ pub const FLAG_FAULTS: [(&str, Row, Door); 8] = [
         Door {
             evaluate: |degree, sides, num, den, load, ohms, exact| {
                 let answer = (MODEL.evaluate)(degree, sides, num, den, load, ohms, exact);
-                let mut lows = given_curve(degree, sides);
+                let mut lows = curve_without_sum(degree, sides);
                 for point in &mut lows.points {
                     (point[1], point[3]) = (point[0], point[2]);
                 }
@@ -25,10 +25,10 @@ pub const FLAG_FAULTS: [(&str, Row, Door); 8] = [
         "the flag of the last stage alone",
         Row::Subdivide,
         Door {
-            subdivide: |degree, sides, num, den, left, right, exact| {
-                let answer = (MODEL.subdivide)(degree, sides, num, den, left, right, exact);
+            subdivide: |degree, sum, sides, num, den, left, right, exact| {
+                let answer = (MODEL.subdivide)(degree, sum, sides, num, den, left, right, exact);
                 stored(answer, exact, || {
-                    let (curve, t) = (given_curve(degree, sides), Parameter { num, den });
+                    let (curve, t) = (curve_without_sum(degree, sides), Parameter { num, den });
                     let [left, right] = curve.subdivide(t).unwrap().result;
                     let stage = [left.points[curve.degree - 1], right.points[1]];
                     exact_at(&Curve::new(&stage), t)
@@ -55,8 +55,8 @@ pub const FLAG_FAULTS: [(&str, Row, Door); 8] = [
         "a flag stored though a buffer is too short",
         Row::Subdivide,
         Door {
-            subdivide: |degree, sides, num, den, left, right, exact| {
-                let answer = (MODEL.subdivide)(degree, sides, num, den, left, right, exact);
+            subdivide: |degree, sum, sides, num, den, left, right, exact| {
+                let answer = (MODEL.subdivide)(degree, sum, sides, num, den, left, right, exact);
                 if number_and_place(answer).0 == SHORT {
                     *exact = 0;
                 }
@@ -69,9 +69,9 @@ pub const FLAG_FAULTS: [(&str, Row, Door); 8] = [
         "the reactances' remainders not looked at",
         Row::Elevate,
         Door {
-            elevate: |degree, sides, raised, exact| {
-                let answer = (MODEL.elevate)(degree, sides, raised, exact);
-                let mut resistances = given_curve(degree, sides);
+            elevate: |degree, sum, sides, raised, exact| {
+                let answer = (MODEL.elevate)(degree, sum, sides, raised, exact);
+                let mut resistances = curve_without_sum(degree, sides);
                 for point in &mut resistances.points {
                     (point[2], point[3]) = (0, 0);
                 }
@@ -84,10 +84,10 @@ pub const FLAG_FAULTS: [(&str, Row, Door); 8] = [
         "the last rounded point of an elevation not counted",
         Row::Elevate,
         Door {
-            elevate: |degree, sides, raised, exact| {
-                let answer = (MODEL.elevate)(degree, sides, raised, exact);
+            elevate: |degree, sum, sides, raised, exact| {
+                let answer = (MODEL.elevate)(degree, sum, sides, raised, exact);
                 stored(answer, exact, || {
-                    let (n, points) = (i64::from(degree), given_curve(degree, sides).points);
+                    let (n, points) = (i64::from(degree), curve_without_sum(degree, sides).points);
                     let sum = |k: i64, side: usize| {
                         let [before, here] = [k - 1, k].map(|k| points[k as usize][side]);
                         k * before + (n + 1 - k) * here
@@ -116,9 +116,9 @@ pub const FLAG_FAULTS: [(&str, Row, Door); 8] = [
         "a dark flag that is not stored",
         Row::Elevate,
         Door {
-            elevate: |degree, sides, raised, exact| {
+            elevate: |degree, sum, sides, raised, exact| {
                 let before = *exact;
-                let answer = (MODEL.elevate)(degree, sides, raised, exact);
+                let answer = (MODEL.elevate)(degree, sum, sides, raised, exact);
                 if *exact == 0 {
                     *exact = before;
                 }

@@ -125,9 +125,11 @@ impl Trial<'_> {
         let (mut again, mut ohms, mut flags) = ([0; FOUR], [0.0; FOUR], [2; 2]);
         let [evaluated, subdivided] = &mut flags;
         let (mut left, mut right) = ([0; LONGEST], [0; LONGEST]);
+        let (up_to, from) = (&mut left, &mut right);
+        // With a sum of 0 a cut is accepted wherever a reading is.
         let answers = [
             (self.door.evaluate)(degree, sides, num, den, &mut again, &mut ohms, evaluated),
-            (self.door.subdivide)(degree, sides, num, den, &mut left, &mut right, subdivided),
+            (self.door.subdivide)(degree, 0, sides, num, den, up_to, from, subdivided),
         ];
         let same = answers == [0; 2] && again == load.result && flags == [load.exact.into(); 2];
         let at_end = usize::from(t.is_end());
@@ -229,8 +231,8 @@ mod tests {
             ..MODEL
         }));
         assert!(!agreed(&Door {
-            subdivide: |degree, sides, num, den, left, right, exact| {
-                let answer = (MODEL.subdivide)(degree, sides, num, den, left, right, exact);
+            subdivide: |degree, sum, sides, num, den, left, right, exact| {
+                let answer = (MODEL.subdivide)(degree, sum, sides, num, den, left, right, exact);
                 *exact &= u32::from(num == 1);
                 answer
             },

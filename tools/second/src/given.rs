@@ -1,6 +1,7 @@
-//! A curve as a call is given it: a degree, and a slice of sides that may be too short or too long.
+//! A curve as a call is given it: a degree, a sum of steps, and a slice of sides that may be too short or too
+//! long.
 
-use crate::door::{curve_length, given_curve};
+use crate::door::{curve_length, given_curve, BEFORE_SIDES};
 use crate::model::{Curve, MAX_DEGREE};
 use std::fmt;
 
@@ -10,6 +11,7 @@ pub const MAX_SIDES: usize = 44;
 #[derive(Clone, Copy, Debug)]
 pub struct Given {
     pub degree: u32,
+    pub sum: u16,
     pub sides: [i32; MAX_SIDES],
     pub length: usize,
 }
@@ -19,6 +21,7 @@ impl Given {
     pub fn exact(curve: &Curve) -> Given {
         let mut given = Given {
             degree: curve.degree as u32,
+            sum: curve.sum,
             sides: [0; MAX_SIDES],
             length: 4 * (curve.degree + 1),
         };
@@ -31,14 +34,20 @@ impl Given {
 
     /// A curve that a call gave, handed on with all that lies past it in the buffer.
     pub fn handed_on(buffer: &[i32]) -> Given {
-        let (degree, sides) = buffer.split_first().expect("a curve's degree");
+        let (before, sides) = buffer.split_at(BEFORE_SIDES);
         let mut given = Given {
-            degree: *degree as u32,
+            degree: before[0] as u32,
+            sum: before[1] as u16,
             sides: [0; MAX_SIDES],
             length: sides.len(),
         };
         given.sides[..sides.len()].copy_from_slice(sides);
         given
+    }
+
+    /// The degree, the sum and the sides.
+    pub fn parts(&self) -> (u32, u16, &[i32]) {
+        (self.degree, self.sum, self.sides())
     }
 
     pub fn sides(&self) -> &[i32] {
@@ -47,7 +56,7 @@ impl Given {
 
     /// The curve that this is.
     pub fn curve(&self) -> Curve {
-        given_curve(self.degree, self.sides())
+        given_curve(self.degree, self.sum, self.sides())
     }
 
     /// Whether all control points are the same rectangle, so that every map of them gives it again.
@@ -70,8 +79,14 @@ impl Given {
 
 impl fmt::Display for Given {
     fn fmt(&self, f: &mut fmt::Formatter) -> fmt::Result {
-        let Given { degree, length, .. } = self;
-        write!(f, "degree {degree}, {length} sides {:?}", self.sides())
+        let Given {
+            degree,
+            sum,
+            length,
+            ..
+        } = self;
+        let sides = self.sides();
+        write!(f, "degree {degree}, sum {sum}, {length} sides {sides:?}")
     }
 }
 
@@ -81,9 +96,9 @@ mod tests {
 
     #[test]
     fn is_the_curve_that_it_was_made_from() {
-        let curve = Curve::new(&[[0, 1, -3, -3], [1, 3, 0, 2]]);
+        let curve = Curve::new(&[[0, 1, -3, -3], [1, 3, 0, 2]]).with_sum(65_535);
         assert_eq!(Given::exact(&curve).curve(), curve);
-        let mut buffer = [1, 0, 1, -3, -3, 1, 3, 0, 2, 99, 99];
+        let mut buffer = [1, 65_535, 0, 1, -3, -3, 1, 3, 0, 2, 99, 99];
         assert_eq!(Given::handed_on(&buffer).curve(), curve);
         buffer[0] = 300;
         assert_eq!(Given::handed_on(&buffer).curve().degree, 300);

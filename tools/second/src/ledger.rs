@@ -1,18 +1,20 @@
-//! The ledger of demand 3 (the paper's book of places and sums), with exact fractions.
+//! The ledger of demand 3 (the paper's book of places and sums), with exact fractions. It tells refusal 17 from
+//! the starting curve's sum of steps and its own.
 
 use crate::call::{Call, Kept};
-use crate::model::{Curve, Parameter, MAX_DEGREE};
+use crate::model::{Curve, Parameter, MAX_DEGREE, MAX_SUM};
 use crate::natural::Natural;
 use crate::sixteenths::SIXTEENTHS;
 
-/// A degree, the start and width of the stretch that is left of the starting curve's, and a sum of
-/// steps. Start and width are over one common lower number.
+/// A degree, the start and width of the stretch that is left of the starting curve's, a sum of steps from 0
+/// on, and the sum that the curve's record carries. Start and width are over one common lower number.
 pub struct Ledger {
     degree: usize,
     start: Natural,
     width: Natural,
     lower: Natural,
     sum: i64,
+    carried: usize,
 }
 
 /// What the ledger says of an accepted evaluation: its place, upper over lower, and its sum of steps.
@@ -31,7 +33,13 @@ impl Ledger {
             width,
             lower,
             sum: 0,
+            carried: curve.sum.into(),
         }
+    }
+
+    /// The sum that the curve's record carries.
+    pub fn carried(&self) -> usize {
+        self.carried
     }
 
     /// Feeds the ledger a call, but none of its answer. An accepted evaluation has an entry.
@@ -42,8 +50,11 @@ impl Ledger {
                 let (num, den) = (*j, SIXTEENTHS);
                 return self.evaluate(Parameter { num, den });
             }
-            Call::Subdivide(t, kept) if t.check().is_ok() => self.subdivide(*t, *kept),
-            Call::Elevate if self.degree < MAX_DEGREE => self.elevate(),
+            Call::Subdivide(t, kept) if t.check().is_ok() && self.has_room(self.degree) => {
+                self.subdivide(*t, *kept);
+            }
+            Call::Elevate if self.degree < MAX_DEGREE && self.has_room(1) => self.elevate(),
+            Call::SetSum(sum) => self.carried = (*sum).into(),
             _ => {}
         }
         None
@@ -67,8 +78,19 @@ impl Ledger {
         }
     }
 
+    /// Whether the curve's sum does not pass the largest with so many steps more.
+    fn has_room(&self, steps: usize) -> bool {
+        self.carried + steps <= MAX_SUM
+    }
+
+    /// Adds steps to both sums.
+    fn add(&mut self, steps: usize) {
+        self.sum += steps as i64;
+        self.carried += steps;
+    }
+
     fn subdivide(&mut self, t: Parameter, kept: Kept) {
-        self.sum += self.degree as i64;
+        self.add(self.degree);
         let Entry { upper, lower, .. } = self.entry(t);
         match kept {
             Kept::Left => {
@@ -85,7 +107,7 @@ impl Ledger {
 
     fn elevate(&mut self) {
         self.degree += 1;
-        self.sum += 1;
+        self.add(1);
     }
 }
 
@@ -121,6 +143,29 @@ mod tests {
         );
         assert_eq!(summed.sum, entry.sum);
         assert!(ledger.feed(&Call::EvaluateSixteenths(17)).is_none());
+    }
+
+    /// The ledger's own sum starts at 0, whatever the curve carries.
+    #[test]
+    fn tells_a_sum_that_would_pass_the_largest() {
+        let mut ledger = Ledger::open(&Curve::new(&[[0; 4]; 3]).with_sum(65_530));
+        let cut = Call::Subdivide(t(1, 2), Kept::Left);
+        ledger.feed(&cut);
+        ledger.feed(&cut);
+        assert_eq!(ledger.carried(), 65_534);
+        ledger.feed(&cut);
+        assert_eq!(ledger.carried(), 65_534);
+        let entry = ledger.feed(&Call::Evaluate(t(1, 1))).unwrap();
+        assert_eq!(entry.upper.times(&4.into()), entry.lower);
+        assert_eq!(entry.sum, 2 + 2 + 2);
+        ledger.feed(&Call::Elevate);
+        ledger.feed(&Call::Elevate);
+        assert_eq!(ledger.carried(), 65_535);
+        assert_eq!(ledger.feed(&Call::Evaluate(t(1, 2))).unwrap().sum, 5 + 3);
+        ledger.feed(&Call::SetSum(7));
+        ledger.feed(&cut);
+        assert_eq!(ledger.carried(), 10);
+        assert_eq!(ledger.feed(&Call::Evaluate(t(1, 2))).unwrap().sum, 8 + 3);
     }
 
     #[test]

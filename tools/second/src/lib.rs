@@ -1,4 +1,4 @@
-//! The second program: document 01 and document 02's points 1 to 4 and 6 written again in ordinary Rust, from
+//! The second program: document 01 and document 02's points 1 to 4, 6 and 7 written again in ordinary Rust, from
 //! the papers and not from the proved code, and what runs it beside the proved library and the programs.
 #![forbid(unsafe_code)]
 
@@ -40,6 +40,8 @@ pub mod lists;
 pub mod measured;
 pub mod panel;
 pub mod programs;
+pub mod reached;
+pub mod steps;
 pub mod summed;
 pub mod trial;
 pub mod verdicts;
@@ -48,6 +50,7 @@ pub mod verdicts;
 pub mod coverage;
 pub mod parts;
 pub mod settings_coverage;
+pub mod sum_coverage;
 pub mod tally;
 
 #[cfg(test)]
@@ -64,3 +67,7 @@ mod settings_answer_faults;
 mod settings_faults;
 #[cfg(test)]
 mod sixteenth_faults;
+#[cfg(test)]
+mod sum_fault_rules;
+#[cfg(test)]
+mod sum_faults;

@@ -1,7 +1,7 @@
 //! Lists of calls from one curve, each call on the curve that the calls before left, and demand 3 on what
 //! the readings gave.
 
-use crate::call::{Call, Kept};
+use crate::call::Call;
 use crate::choices;
 use crate::claim::{claim, Ordinary};
 use crate::coverage::{Before, Line, Row};
@@ -10,6 +10,7 @@ use crate::given::Given;
 use crate::grid::Grid;
 use crate::ledger::{Entry, Ledger};
 use crate::model::{Curve, Flagged, Rectangle, MAX_SIDE};
+use crate::steps::{kind_of, NO_SUM};
 use crate::trial::{Outcome, Trial, SHORT};
 
 /// Demand 3 is tried on one in so many lists, and one in so many has a choice among its calls.
@@ -21,12 +22,14 @@ const STAGED: [Line; 3] = [Line::Changes, Line::Refusals, Line::ExactReadings];
 const SUMMED: [Line; 3] = [Line::SummedChanges, Line::SummedRefusals, Line::SummedExact];
 
 /// What a list holds between two calls: the curve left, the ledger where the starting curve is accepted,
-/// how many subdivisions and elevations were accepted and refused, and whether some accepted one rounded.
+/// how many subdivisions and elevations were accepted, refused, and refused for their sum, and whether some
+/// accepted one rounded.
 struct List {
     given: Given,
     ledger: Option<Ledger>,
     changes: usize,
     refusals: usize,
+    no_sums: usize,
     rounded: bool,
 }
 
@@ -48,6 +51,7 @@ struct Evaluation {
     sides: Rectangle,
     changes: usize,
     refusals: usize,
+    no_sums: usize,
     exact: bool,
 }
 
@@ -69,6 +73,7 @@ pub fn compare(trial: &mut Trial, degree: usize) -> Result<(), String> {
         ledger,
         changes: 0,
         refusals: 0,
+        no_sums: 0,
         rounded: false,
     };
     let mut evaluations = Vec::new();
@@ -89,6 +94,7 @@ fn count_start(trial: &mut Trial, given: &Given, start: &Curve, calls: usize) {
     if start.check().is_ok() {
         trial.tally.cover(Line::Degrees, start.degree);
         trial.tally.cover(Line::Reached, limits_reached(start));
+        trial.tally.cover(Line::StartSums, kind_of(start.sum));
     }
 }
 
@@ -120,22 +126,20 @@ fn step(trial: &mut Trial, list: &mut List, call: &Call) -> Result<Option<Evalua
             if let Ok(pieces) = &outcome {
                 trial.try_pieces(&list.given, *t, pieces)?;
             }
-            let kept = |[left, right]: [Given; 2]| match kept {
-                Kept::Left => left,
-                Kept::Right => right,
-            };
-            change(list, call, outcome.map(|pieces| pieces.map(kept)));
+            let kept = outcome.map(|pieces| pieces.map(|both| kept.of(both)));
+            change(trial, list, call, kept)?;
         }
         Call::Elevate => {
             let outcome = trial.elevate(&list.given)?;
             if let Ok(raised) = &outcome {
                 trial.try_raised(&list.given, raised)?;
             }
-            change(list, call, outcome);
+            change(trial, list, call, outcome)?;
         }
         Call::Bounds => trial.bounds(&list.given)?,
         Call::Search(search) => trial.search(&list.given, search)?,
         Call::ChooseSetting(settings) => choices::compare(trial, &list.given, settings)?,
+        Call::SetSum(_) => unreachable!("a line of replay"),
     }
     Ok(None)
 }
@@ -149,8 +153,14 @@ fn feed<T>(list: &mut List, call: &Call, outcome: &Outcome<T>) -> Option<Entry> 
     list.ledger.as_mut()?.feed(call)
 }
 
-/// Keeps the curve that an accepted call gave; a refused one leaves the curve it got.
-fn change(list: &mut List, call: &Call, outcome: Outcome<Flagged<Given>>) {
+/// Keeps the curve that an accepted call gave; a refused one leaves the curve it got. The ledger must say of
+/// the curve which sum it carries.
+fn change(
+    trial: &mut Trial,
+    list: &mut List,
+    call: &Call,
+    outcome: Outcome<Flagged<Given>>,
+) -> Result<(), String> {
     feed(list, call, &outcome);
     match outcome {
         Ok(changed) => {
@@ -158,8 +168,19 @@ fn change(list: &mut List, call: &Call, outcome: Outcome<Flagged<Given>>) {
             list.changes += 1;
             list.rounded |= !changed.exact;
         }
-        Err(_) => list.refusals += 1,
+        Err(number) => {
+            list.refusals += 1;
+            list.no_sums += usize::from(number == NO_SUM);
+        }
     }
+    let Some(ledger) = &list.ledger else {
+        return Ok(());
+    };
+    let (sum, carried) = (list.given.sum, ledger.carried());
+    let same = usize::from(sum) == carried;
+    trial.tally.compare(Row::SumByLedger, same, || {
+        format!("sum {sum}, by the ledger {carried}, after {call:?}")
+    })
 }
 
 /// The ledger must say of the same evaluations as the library that they are accepted.
@@ -176,6 +197,7 @@ fn evaluation(
             sides: load.result.map(i64::from),
             changes: list.changes,
             refusals: list.refusals,
+            no_sums: list.no_sums,
             exact: load.exact && !list.rounded,
         })),
         (Err(_), None) => Ok(None),
@@ -212,6 +234,8 @@ fn try_claim(
         let [changes, refusals, exact_readings] = lines;
         trial.tally.cover(changes, evaluation.changes);
         trial.tally.cover(refusals, evaluation.refusals);
+        trial.tally.cover(Line::ClaimSums, kind_of(start.sum));
+        trial.tally.cover(Line::ClaimNoSums, evaluation.no_sums);
         if *exact {
             trial.tally.cover(exact_readings, evaluation.changes);
         }

@@ -10,13 +10,13 @@ use second::cards::MAX_CARD_LENT;
 use second::model::MAX_DEGREE;
 use second::parts::{in_parts, SEED};
 use second::pattern::{FIELDS, SPECIALS};
-use second::programs::{card, examples, records, replay, slow};
+use second::programs::{card, examples, records, replay, slow, sums};
 use second::records::REFUSED_LENGTHS;
 use second::rng::Rng;
 use second::settings::MAX_RECORDS;
 use second::tally::Tally;
 use second::trial::Trial;
-use second::{cards, choices, lists, measured, panel, summed};
+use second::{cards, choices, lists, measured, panel, reached, steps, summed};
 use std::path::{Path, PathBuf};
 use std::process::ExitCode;
 use std::time::Instant;
@@ -31,6 +31,10 @@ const CARDS_READ: usize = 400_000;
 /// How often the writer is tried with each length of buffer, at each degree.
 const WRITTEN_EACH: usize = 80;
 const PANEL_CALLS: usize = 1_000_000;
+/// How often each call is tried on both sides of the largest sum of steps, at each degree, and lists from
+/// cards of each degree that are followed with exact fractions.
+const STEPS_EACH: usize = 50;
+const REACHED_OF_EACH_DEGREE: usize = 1_000;
 /// Measurements of each form with any bits, and as many loads that are drawn.
 const MEASURED: usize = 2_000_000;
 /// How often lists of settings are planned and drawn of each length, and how often with a bad box at each
@@ -98,7 +102,21 @@ fn run_library(tally: &mut Tally) -> Result<(), String> {
         degrees.try_for_each(|degree| summed::compare(&mut trial(rng, tally), degree))
     })?;
     run_settings(tally)?;
+    run_sums(tally)?;
     run_bridge(tally)
+}
+
+/// Every comparison of the sum of steps.
+fn run_sums(tally: &mut Tally) -> Result<(), String> {
+    in_parts(20, STEPS_EACH, tally, |_, rng, tally| {
+        (1..=MAX_DEGREE).try_for_each(|degree| steps::compare(&mut trial(rng, tally), degree))
+    })?;
+    in_parts(21, PARTS, tally, |_, rng, tally| {
+        let mut degrees = (1..=MAX_DEGREE)
+            .cycle()
+            .take(MAX_DEGREE * REACHED_OF_EACH_DEGREE / PARTS);
+        degrees.try_for_each(|degree| reached::compare(&mut trial(rng, tally), degree))
+    })
 }
 
 /// Every comparison of the choice from a list of settings.
@@ -149,6 +167,7 @@ fn run_programs(replay_path: &Path, card_path: &Path, tally: &mut Tally) -> Resu
     card::compare_long(card_path, tally)?;
     card::compare_places(card_path, tally)?;
     replay::compare_examples(replay_path, tally)?;
+    sums::compare_set(replay_path, tally)?;
     in_parts(5, CARDS_PRINTED, tally, |_, rng, tally| {
         card::compare(card_path, rng, tally)
     })?;
@@ -164,6 +183,9 @@ fn run_programs(replay_path: &Path, card_path: &Path, tally: &mut Tally) -> Resu
     in_parts(8, SLOW_CASES, tally, |_, rng, tally| {
         slow::compare_card(card_path, rng, tally)?;
         slow::compare_replay(replay_path, rng, tally)
+    })?;
+    in_parts(22, 1, tally, |_, rng, tally| {
+        sums::compare_worn(replay_path, rng, tally)
     })?;
     in_parts(9, 1, tally, |_, rng, tally| {
         replay::compare_long(replay_path, rng, tally)

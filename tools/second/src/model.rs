@@ -1,6 +1,6 @@
 //! The curve and what is done with it: document 01's operations in ordinary 64-bit arithmetic, with the
-//! exact flag of document 02's point 1. The definitions keep to the papers' words, since this is what the
-//! proved code is compared with.
+//! exact flag of document 02's point 1 and the sum of steps of its point 7. The definitions keep to the
+//! papers' words, since this is what the proved code is compared with.
 
 /// The largest side, in steps of 1/1,024 ohm; the least is its negative.
 pub const MAX_SIDE: i64 = 16_777_216;
@@ -8,14 +8,18 @@ pub const MAX_DEGREE: usize = 8;
 /// The places of a curve's record: one for each control point of the highest degree.
 pub const PLACES: usize = MAX_DEGREE + 1;
 pub const MAX_DEN: u32 = 65_536;
+/// The largest sum of steps.
+pub const MAX_SUM: usize = 65_535;
 
 /// Resistance low, resistance high, reactance low, reactance high.
 pub type Rectangle = [i64; 4];
 
-/// A degree and its control points; the places past the degree are zero.
+/// A degree, a sum of steps and the control points; the places past the degree are zero. Two curves are
+/// equal if all three are.
 #[derive(Clone, Copy, PartialEq, Debug)]
 pub struct Curve {
     pub degree: usize,
+    pub sum: u16,
     pub points: [Rectangle; PLACES],
 }
 
@@ -61,10 +65,11 @@ pub fn refuse_if(condition: bool, number: u32, place: usize) -> Result<(), Refus
 impl Curve {
     pub const ZERO: Curve = Curve {
         degree: 0,
+        sum: 0,
         points: [[0; 4]; PLACES],
     };
 
-    /// The curve with these control points.
+    /// The curve with these control points and a sum of 0.
     pub fn new(points: &[Rectangle]) -> Curve {
         let mut curve = Curve::ZERO;
         curve.degree = points.len() - 1;
@@ -89,20 +94,43 @@ impl Curve {
         Ok(())
     }
 
-    /// The load at a parameter (the paper's reading): what the last stage has left.
-    pub fn evaluate(&self, t: Parameter) -> Result<Flagged<Rectangle>, Refusal> {
-        let pieces = self.subdivide(t)?;
-        Ok(pieces.map(|[left, _]| left.points[self.degree]))
+    /// The curve with another sum of steps.
+    pub fn with_sum(self, sum: u16) -> Curve {
+        Curve { sum, ..self }
     }
 
-    /// The left piece and the right piece (the paper's cut): the first rectangle of each stage of de
-    /// Casteljau's table, and the last of each stage from the last stage back.
+    /// The sum with some steps more, or refusal 17 where it would pass the largest.
+    pub fn sum_after(&self, steps: usize) -> Result<u16, Refusal> {
+        let sum = usize::from(self.sum) + steps;
+        refuse_if(sum > MAX_SUM, 17, 0)?;
+        Ok(sum as u16)
+    }
+
+    /// The load at a parameter (the paper's reading): what the last stage has left.
+    pub fn evaluate(&self, t: Parameter) -> Result<Flagged<Rectangle>, Refusal> {
+        self.check()?;
+        t.check()?;
+        Ok(self.edges(t).map(|[left, _]| left[self.degree]))
+    }
+
+    /// The left piece and the right piece (the paper's cut), both with the curve's sum plus its degree.
     pub fn subdivide(&self, t: Parameter) -> Result<Flagged<[Curve; 2]>, Refusal> {
         self.check()?;
         t.check()?;
+        let (degree, sum) = (self.degree, self.sum_after(self.degree)?);
+        let piece = |points| Curve {
+            degree,
+            sum,
+            points,
+        };
+        Ok(self.edges(t).map(|edges| edges.map(piece)))
+    }
+
+    /// The first rectangle of each stage of de Casteljau's table, and the last of each stage from the last
+    /// stage back.
+    fn edges(&self, t: Parameter) -> Flagged<[[Rectangle; PLACES]; 2]> {
         let n = self.degree;
-        let (mut left, mut right) = (*self, *self);
-        let mut stage = self.points;
+        let (mut left, mut right, mut stage) = (self.points, self.points, self.points);
         let mut exact = true;
         for s in 1..=n {
             // Stage s has the affine maps of the neighbours in the stage before, and ends at n - s.
@@ -111,20 +139,21 @@ impl Curve {
                 stage[k] = map.result;
                 exact &= map.exact;
             }
-            left.points[s] = stage[0];
-            right.points[n - s] = stage[n - s];
+            left[s] = stage[0];
+            right[n - s] = stage[n - s];
         }
         let result = [left, right];
-        Ok(Flagged { result, exact })
+        Flagged { result, exact }
     }
 
-    /// The same curve by control points of one degree more (the paper's raising).
+    /// The same curve by control points of one degree more (the paper's raising), with a sum of one more.
     pub fn elevate(&self) -> Result<Flagged<Curve>, Refusal> {
         self.check()?;
         refuse_if(self.degree == MAX_DEGREE, 6, 0)?;
         let n = self.degree;
         let mut result = Curve::ZERO;
         result.degree = n + 1;
+        result.sum = self.sum_after(1)?;
         let mut exact = true;
         for k in 0..=n + 1 {
             let before = if k == 0 { [0; 4] } else { self.points[k - 1] };
@@ -319,6 +348,41 @@ mod tests {
         assert_eq!(both.evaluate(at(1, 0)), refused(2, 1));
         let crossed = Curve::new(&[[0, 0, 0, 0], [0, 0, 0, 0], [0, 0, 1, 0]]);
         assert_eq!(crossed.evaluate(at(1, 0)), refused(3, 2));
+    }
+
+    #[test]
+    fn adds_up_the_sums() {
+        let curve = values(&[1, 0, 3]).with_sum(7);
+        let sums = |pieces: [Curve; 2]| pieces.map(|piece| piece.sum);
+        assert_eq!(sums(curve.subdivide(at(1, 2)).unwrap().result), [9; 2]);
+        assert_eq!(sums(curve.subdivide(at(0, 1)).unwrap().result), [9; 2]);
+        assert_eq!(curve.elevate().unwrap().result.sum, 8);
+        assert_eq!((Curve::ZERO.sum, values(&[1, 0]).sum), (0, 0));
+        assert_ne!(curve, values(&[1, 0, 3]));
+        assert_eq!(curve.with_sum(0), values(&[1, 0, 3]));
+    }
+
+    #[test]
+    fn refuses_a_sum_past_the_largest_last() {
+        for degree in 1..=MAX_DEGREE {
+            let of_sum = |sum: usize| values(&vec![0; degree + 1]).with_sum(sum as u16);
+            let [within, beyond] = [MAX_SUM - degree, MAX_SUM - degree + 1].map(of_sum);
+            let pieces = within.subdivide(at(1, 2)).unwrap().result;
+            assert_eq!(pieces.map(|piece| piece.sum), [u16::MAX; 2]);
+            let cut = |num, den| number(beyond.subdivide(at(num, den)));
+            assert_eq!([cut(1, 2), cut(1, 0), cut(3, 2)], [17, 4, 5]);
+            let full = of_sum(MAX_SUM);
+            let raised = [MAX_SUM - 1, MAX_SUM].map(|sum| number(of_sum(sum).elevate()));
+            let expected = if degree < MAX_DEGREE { [0, 17] } else { [6; 2] };
+            assert_eq!(raised, expected);
+            assert_eq!(number(full.evaluate(at(1, 2))), 0);
+            assert_eq!(number(full.evaluate_sixteenths(8)), 0);
+            assert_eq!(number(full.bounds()), 0);
+        }
+        let (number, place) = (17, 0);
+        let full = values(&[0, 0]).with_sum(u16::MAX);
+        assert_eq!(full.subdivide(at(0, 1)), Err(Refusal { number, place }));
+        assert_eq!(full.elevate(), Err(Refusal { number, place }));
     }
 
     #[test]

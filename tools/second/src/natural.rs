@@ -152,6 +152,23 @@ impl Integer {
         side.add_product(factor.unsigned_abs(), natural);
     }
 
+    /// p × a + q × b.
+    pub fn weighted(p: u32, a: &Integer, q: u32, b: &Integer) -> Integer {
+        let mut sum = Integer::zero();
+        for (factor, number) in [(p, a), (q, b)] {
+            sum.added.add_product(factor.into(), &number.added);
+            sum.taken.add_product(factor.into(), &number.taken);
+        }
+        sum
+    }
+
+    pub fn times(&self, natural: &Natural) -> Integer {
+        Integer {
+            added: self.added.times(natural),
+            taken: self.taken.times(natural),
+        }
+    }
+
     pub fn compare(&self, other: &Integer) -> Ordering {
         let mine = self.added.plus(&other.taken);
         mine.cmp(&other.added.plus(&self.taken))
@@ -234,6 +251,11 @@ mod tests {
                 left.add_product(b, &one);
                 let sum = Integer::product(a + b, &one);
                 assert!(left.at_most(&sum) && sum.at_most(&left) && left.equals(&sum));
+                let [a_one, b_one] = [a, b].map(|number| Integer::product(number, &one));
+                let weighted = Integer::weighted(2, &a_one, 5, &b_one);
+                assert!(weighted.equals(&Integer::product(2 * a + 5 * b, &one)));
+                let times = weighted.times(&7.into());
+                assert!(times.equals(&Integer::product(14 * a + 35 * b, &one)));
             }
         }
     }

@@ -2,7 +2,7 @@
 
 use crate::coverage::{Line, Row};
 use crate::damage;
-use crate::door::{curve_length, FOUR, MODEL, PANEL_BYTES};
+use crate::door::{curve_length, BEFORE_SIDES, FOUR, MODEL, PANEL_BYTES};
 use crate::draw::parameter;
 use crate::lent::{Lent, BEHIND};
 use crate::model::{Parameter, MAX_DEGREE};
@@ -71,7 +71,7 @@ fn by_calls(trial: &Trial, card: &[u8], t: Parameter) -> Outcome<[i32; FOUR]> {
     let mut curve = [0; curve_length(MAX_DEGREE)];
     accepted((trial.door.read_card)(card, &mut curve))?;
     let (mut load, mut ohms, mut exact) = ([0; FOUR], [0.0; FOUR], 0);
-    let (degree, sides) = (curve[0] as u32, &curve[1..]);
+    let (degree, sides) = (curve[0] as u32, &curve[BEFORE_SIDES..]);
     accepted((trial.door.evaluate)(
         degree, sides, t.num, t.den, &mut load, &mut ohms, &mut exact,
     ))?;

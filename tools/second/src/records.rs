@@ -28,7 +28,7 @@ pub fn effort(rng: &mut Rng) -> (u32, u32) {
 }
 
 /// A budget of 1 to 8 pieces.
-fn few(rng: &mut Rng) -> u32 {
+pub fn few(rng: &mut Rng) -> u32 {
     1 + rng.up_to(7) as u32
 }
 
@@ -39,7 +39,7 @@ fn number(rng: &mut Rng) -> u16 {
 }
 
 /// A box about the bounds of a curve.
-fn filled_limits(rng: &mut Rng, bounds: &Rectangle) -> Rectangle {
+pub fn filled_limits(rng: &mut Rng, bounds: &Rectangle) -> Rectangle {
     loop {
         let limits = draw::limits(rng, bounds);
         if !is_no_box(&limits) {
@@ -237,9 +237,10 @@ impl Scene {
 }
 
 /// The box that just holds all pieces at a depth drawn up to this one, or is a step too small at a high side.
-/// The whole curve's bounds are mostly wider, so that such a box fits only after some cuts.
+/// The whole curve's bounds are mostly wider, so that such a box fits only after some cuts. These are made with
+/// a sum of 0, so that none is refused.
 fn tight(rng: &mut Rng, curve: &Curve, most: usize) -> Rectangle {
-    let mut pieces = vec![*curve];
+    let mut pieces = vec![curve.with_sum(0)];
     for _ in 0..rng.up_to(most) {
         let halves = |piece: &Curve| piece.subdivide(Parameter { num: 1, den: 2 });
         let halves = pieces.iter().map(|piece| halves(piece).expect("a piece"));

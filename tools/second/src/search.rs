@@ -65,6 +65,7 @@ impl Search {
         curve.check()?;
         refuse_if(is_no_box(&self.limits), 7, 0)?;
         check_effort(self.depth, self.budget)?;
+        check_sum(curve, self.depth)?;
         self.all_pieces(Piece {
             curve: *curve,
             depth: 0,
@@ -109,6 +110,11 @@ pub fn is_no_box(limits: &Rectangle) -> bool {
 pub fn check_effort(depth: u32, budget: u32) -> Result<(), Refusal> {
     refuse_if(depth > MAX_DEPTH, 8, 0)?;
     refuse_if(!(1..=MAX_BUDGET).contains(&budget), 9, 0)
+}
+
+/// Refusal 17: the sum that a piece at the depth limit would have is too large.
+pub fn check_sum(curve: &Curve, depth: u32) -> Result<(), Refusal> {
+    curve.sum_after(depth as usize * curve.degree).map(|_| ())
 }
 
 /// A box's high sides lie outside the box, its low sides inside.
@@ -174,6 +180,28 @@ mod tests {
         assert_eq!(searched([0, 1, 0, 1], 13, 0), refused(8));
         assert_eq!(searched([0, 1, 0, 1], 12, 0), refused(9));
         assert_eq!(searched([0, 1, 0, 1], 12, 8_192), refused(9));
+    }
+
+    /// At degree 2 and depth 3 six steps are needed, however few pieces are looked at.
+    #[test]
+    fn refuses_a_sum_past_the_largest_last() {
+        let number = |sum, limits, depth, budget| {
+            let curve = Curve::new(&[[0; 4]; 3]).with_sum(sum);
+            let search = Search {
+                limits,
+                depth,
+                budget,
+            };
+            search.over(&curve).map_err(|refusal| refusal.number)
+        };
+        let limits = [0, 1, 0, 1];
+        assert_eq!(number(65_529, limits, 3, 1), Ok([1, 0, 0, 1]));
+        assert_eq!(number(65_530, limits, 3, 1), Err(17));
+        assert_eq!(number(65_535, limits, 0, 1), Ok([1, 0, 0, 1]));
+        assert_eq!(number(65_535, [0, 0, 0, 1], 13, 0), Err(7));
+        assert_eq!(number(65_535, limits, 13, 0), Err(8));
+        assert_eq!(number(65_535, limits, 12, 0), Err(9));
+        assert_eq!(number(65_535, limits, 12, 1), Err(17));
     }
 
     #[test]

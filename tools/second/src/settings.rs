@@ -2,7 +2,7 @@
 //! after the other, each with the whole budget, up to the first whose search ends Inside.
 
 use crate::model::{refuse_if, Curve, Rectangle, Refusal};
-use crate::search::{check_effort, is_no_box, Search, INSIDE};
+use crate::search::{check_effort, check_sum, is_no_box, Search, INSIDE};
 
 /// The most records that a list may have.
 pub const MAX_RECORDS: usize = 64;
@@ -44,7 +44,7 @@ impl Settings {
         Ok(None)
     }
 
-    /// Refusal 16 first, then the curve's own, 7 over the whole list, 8 and 9.
+    /// Refusal 16 first, then the curve's own, 7 over the whole list, 8, 9 and 17.
     fn check(&self, curve: &Curve) -> Result<(), Refusal> {
         let length = self.records.len();
         refuse_if(!(1..=MAX_RECORDS).contains(&length), 16, length)?;
@@ -52,7 +52,8 @@ impl Settings {
         for (index, record) in self.records.iter().enumerate() {
             refuse_if(is_no_box(&record.limits), 7, index)?;
         }
-        check_effort(self.depth, self.budget)
+        check_effort(self.depth, self.budget)?;
+        check_sum(curve, self.depth)
     }
 
     /// The search of one record.
@@ -147,5 +148,27 @@ mod tests {
         };
         let (number, place) = (1, 0);
         assert_eq!(one.choose(&Curve::ZERO), Err(Refusal { number, place }));
+    }
+
+    /// At degree 1 and depth 4 four steps are needed, whichever record fits.
+    #[test]
+    fn refuses_a_sum_past_the_largest_last() {
+        let number = |sum, boxes: &[Rectangle], depth, budget| {
+            let curve = Curve::new(&[[0; 4], [4, 4, 0, 0]]).with_sum(sum);
+            let settings = Settings {
+                records: records(boxes),
+                depth,
+                budget,
+            };
+            let chosen = settings.choose(&curve);
+            chosen.map_or_else(|refusal| refusal.number, |_| 0)
+        };
+        assert_eq!(number(65_531, &[WHOLE], 4, 1), 0);
+        assert_eq!(number(65_532, &[WHOLE], 4, 1), 17);
+        assert_eq!(number(65_535, &[WHOLE], 0, 1), 0);
+        assert_eq!(number(65_535, &[], 13, 0), 16);
+        assert_eq!(number(65_535, &[WHOLE, CROSSED], 13, 0), 7);
+        assert_eq!(number(65_535, &[WHOLE], 13, 0), 8);
+        assert_eq!(number(65_535, &[WHOLE], 12, 0), 9);
     }
 }

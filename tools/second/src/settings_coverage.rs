@@ -43,7 +43,7 @@ pub const SETTINGS: Group = (
         (
             SettingNumbers,
             "answers",
-            These(&[0, 1, 2, 3, 7, 8, 9, 12, 16]),
+            These(&[0, 1, 2, 3, 7, 8, 9, 12, 16, 17]),
             2_000,
         ),
         (SettingChoice, "choice lent", Span(0, 7), 1_000),

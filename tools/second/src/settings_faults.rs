@@ -18,6 +18,7 @@ use std::cell::Cell;
 #[derive(Clone)]
 pub struct Case {
     pub degree: u32,
+    pub sum: u16,
     pub sides: Vec<i32>,
     pub list: Vec<Setting>,
     pub depth: u32,
@@ -28,11 +29,12 @@ impl Case {
     /// The model's answer.
     pub fn answer(&self, choice: &mut [u32]) -> u64 {
         let Case { depth, budget, .. } = *self;
-        (MODEL.choose_setting)(self.degree, &self.sides, &self.list, depth, budget, choice)
+        let (sum, list) = (self.sum, &self.list);
+        (MODEL.choose_setting)(self.degree, sum, &self.sides, list, depth, budget, choice)
     }
 
     pub fn curve(&self) -> Curve {
-        given_curve(self.degree, &self.sides)
+        given_curve(self.degree, self.sum, &self.sides)
     }
 
     /// The verdict over the box of one record, with some depth and budget.
@@ -217,6 +219,7 @@ thread_local! {
 /// The call with the fault.
 fn faulty(
     degree: u32,
+    sum: u16,
     sides: &[i32],
     settings: &[Setting],
     depth: u32,
@@ -225,6 +228,7 @@ fn faulty(
 ) -> u64 {
     let mut case = Case {
         degree,
+        sum,
         sides: sides.to_vec(),
         list: settings.to_vec(),
         depth,
@@ -246,7 +250,7 @@ fn faulty(
 /// others a fault may be found by what is tried besides.
 fn found(fault: Fault) -> Result<(), String> {
     FAULT.set(fault);
-    let (mut rng, mut tally) = (Rng::new(13), Tally::default());
+    let (mut rng, mut tally) = (Rng::new(8), Tally::default());
     let door = &Door {
         choose_setting: faulty,
         ..MODEL

@@ -1,7 +1,7 @@
 //! The second program tried on the second reading: every fault in it, one each, must be found out, and every
 //! weight that is wrong by one.
 
-use crate::door::{given_curve, AtSixteenth, Door, FOUR, MODEL};
+use crate::door::{curve_without_sum, AtSixteenth, Door, FOUR, MODEL};
 use crate::model::{Curve, MAX_DEGREE, PLACES};
 use crate::rng::Rng;
 use crate::sixteenths::{weights, SIXTEENTHS};
@@ -292,7 +292,7 @@ fn changed(
     let answer = (MODEL.evaluate_sixteenths)(degree, sides, j, load, ohms, exact);
     if answer == 0 {
         let weights = weights(degree as usize, j);
-        let sums = Sums::of(&given_curve(degree, sides), j, &weights);
+        let sums = Sums::of(&curve_without_sum(degree, sides), j, &weights);
         change(&sums, load, exact);
         for (side, ohms) in load[..FOUR].iter().zip(ohms) {
             *ohms = *side as f32 / 1_024.0;
@@ -358,7 +358,7 @@ fn with_a_wrong_weight(
     changed(degree, sides, j, load, ohms, exact, |_, load, exact| {
         let mut weights = weights(wrong_degree, j);
         weights[k] += by;
-        let sums = Sums::of(&given_curve(degree, sides), j, &weights);
+        let sums = Sums::of(&curve_without_sum(degree, sides), j, &weights);
         for (side, place) in load[..FOUR].iter_mut().enumerate() {
             let up = i64::from(side % 2 == 1 && sums.remainder(side) != 0);
             *place = (sums.sums[side].div_euclid(sums.lower) + up) as i32;

@@ -130,6 +130,12 @@ impl Trial<'_> {
     }
 }
 
+/// Whether some buffer is shorter than the result.
+pub fn is_short(needed: usize, buffers: &[&dyn Compared]) -> bool {
+    let mut lengths = buffers.iter().filter_map(|buffer| buffer.length());
+    lengths.any(|length| length < needed)
+}
+
 fn shown(answer: u64) -> String {
     match number_and_place(answer) {
         (ACCEPTED, 0) => "accepted".to_string(),

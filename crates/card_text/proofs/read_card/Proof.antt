@@ -53,13 +53,13 @@ read-rows-requires c κs =
 
 -- the curve that is made, of the decoded degree
 abbrev heldCurve : List ℕ → Curve
-heldCurve bytes = curveOf (decoded bytes .degree) (heldAt bytes)
+heldCurve bytes = curveOf (decoded bytes .degree) 0 (heldAt bytes)
 
 made : (c : tie.After-read-rows) →
-    record { degree = c .before .before .before .before .read-header .result .degree; points = c .read-rows .result .points } ≡ heldCurve (bytesOf (c .before))
+    record { degree = c .before .before .before .before .read-header .result .degree; sum = 0; points = c .read-rows .result .points } ≡ heldCurve (bytesOf (c .before))
 made c =
     let n = c .before .before .before .before .read-header .result .degree in
-    ap (λ (l : List Rect). record { degree = n; points = l }) (c .read-rows .ensures .1) ∙ ap (λ (m : ℕ). curveOf m (heldAt (bytesOf (c .before)))) (degree (c .before))
+    ap (λ (l : List Rect). record { degree = n; sum = 0; points = l }) (c .read-rows .ensures .1) ∙ ap (λ (m : ℕ). curveOf m 0 (heldAt (bytesOf (c .before)))) (degree (c .before))
 
 held-refusal : (bytes : List ℕ) → decoded bytes .degree ≤ maxDegree → curveRefusal (heldCurve bytes) ≡ curveRefusal (decoded bytes)
 unfolding decoded

@@ -1,4 +1,4 @@
--- `box_refusal` meets its contract: the box's test first, then the depth's and the budget's.
+-- `box_refusal` meets its contract: the box's test first, then the depth's, the budget's and the sum's.
 -- Assumes nothing.
 use mathlib.Core.Path.{ap, ap₂, _∙_}
 use mathlib.Core.Bool.{Bool}

@@ -17,16 +17,25 @@ is-from-one-to-requires c κs = search needs
 refused-unless-requires-2 : tie.Need-refused-unless-requires-2
 refused-unless-requires-2 c κs = search needs
 
-first-of-requires : tie.Need-first-of-requires
-first-of-requires c κs = search needs
-
 returns : tie.Need-returns
 unfolding effortRefusal
 returns c =
-    let second = c .before in
+    let rest = c .before in
+    let second = rest .before .before in
     let first = second .before .before in
-    c .first-of .ensures
-    ∙ ap₂ _orElse_ (first .refused-unless .ensures) (second .refused-unless2 .ensures ∙ ap (λ (b : Bool). unless b 9) (second .before .is-from-one-to .ensures))
+    c .first-of2 .ensures
+    ∙ ap₂ _orElse_ (first .refused-unless .ensures)
+    (rest .first-of .ensures
+    ∙ ap₂ _orElse_ (second .refused-unless2 .ensures ∙ ap (λ (b : Bool). unless b 9) (second .before .is-from-one-to .ensures)) (rest .before .deepest-refusal .ensures))
 
 pub effort-refusal-spec : {M : Type 1} → statement M
-effort-refusal-spec = tie.close (tie.spec refused-unless-requires is-from-one-to-requires refused-unless-requires-2 first-of-requires returns)
+effort-refusal-spec =
+    tie.close
+    (tie.spec
+    refused-unless-requires
+    is-from-one-to-requires
+    refused-unless-requires-2
+    (λ c κs. search needs)
+    (λ c κs. search needs)
+    (λ c κs. search needs)
+    returns)

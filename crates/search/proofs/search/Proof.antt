@@ -24,7 +24,7 @@ accepted c =
     number-facts (a .c) (a .limits) (a .depth) (a .budget) (number-passed (c .before .before .search-refusal .ensures) (c .if1 .left))
 
 walk-requires : tie.Need-walk-requires
-walk-requires c κs = let f = accepted c in record { limited = omega arith; numbered = omega arith; budgeted = f .few; counted = omega arith }
+walk-requires c κs = let f = accepted c in record { limited = let shallow = f .effort .shallow in omega arith; numbered = omega arith; budgeted = f .effort .few; counted = omega arith }
 
 returns-2 : tie.Need-returns-2
 returns-2 c =

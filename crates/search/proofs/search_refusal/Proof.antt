@@ -1,4 +1,4 @@
--- `search_refusal` meets its contract: the curve's refusal first, then the box's, the depth's and the budget's.
+-- `search_refusal` meets its contract: the curve's refusal first, then the box's, the depth's, the budget's and the sum's.
 -- Assumes nothing.
 use mathlib.Core.Path.{ap₂, _∙_}
 use borrow.Author.Needs.{needs}

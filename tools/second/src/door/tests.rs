@@ -14,17 +14,20 @@ fn stores_in_front_and_keeps_the_rest() {
     );
     assert_eq!((load, exact), ([0, 2, -2, 0, 7], 0));
     assert_eq!(display, [0.0, 2.0 / 1_024.0, -2.0 / 1_024.0, 0.0, 7.0]);
-    let (mut left, mut right) = ([7; 10], [7; 9]);
+    let (mut left, mut right) = ([7; 11], [7; 10]);
     assert_eq!(
-        subdivide(1, &SIDES, 0, 2, &mut left, &mut right, &mut exact),
+        subdivide(1, 5, &SIDES, 0, 2, &mut left, &mut right, &mut exact),
         0
     );
-    assert_eq!(left, [1, 0, 1, -3, -3, 0, 1, -3, -3, 7]);
-    assert_eq!((right, exact), ([1, 0, 1, -3, -3, 1, 3, 0, 2], 1));
-    let mut raised = [7; 14];
-    assert_eq!(elevate(1, &SIDES, &mut raised, &mut exact), 0);
-    let sides = [2, 0, 1, -3, -3, 0, 2, -2, 0, 1, 3, 0, 2, 7];
-    assert_eq!((raised, exact), (sides, 0));
+    assert_eq!(left, [1, 6, 0, 1, -3, -3, 0, 1, -3, -3, 7]);
+    assert_eq!((right, exact), ([1, 6, 0, 1, -3, -3, 1, 3, 0, 2], 1));
+    let mut raised = [7; 15];
+    assert_eq!(elevate(1, 65_534, &SIDES, &mut raised, &mut exact), 0);
+    let numbers = [2, 65_535, 0, 1, -3, -3, 0, 2, -2, 0, 1, 3, 0, 2, 7];
+    assert_eq!((raised, exact), (numbers, 0));
+    let mut curve = [7; 11];
+    assert_eq!(read_card(CARD, &mut curve), 0);
+    assert_eq!(curve, [1, 0, 0, 1, -3, -3, 1, 3, 0, 2, 7]);
     let mut out = [7; 20];
     assert_eq!(panel(CARD, 1, 2, &mut out), 0);
     let sides = [0, 0, 0, 0, 2, 0, 0, 0, 254, 255, 255, 255, 0, 0, 0, 0];
@@ -52,21 +55,24 @@ fn reads_a_sixteenth_as_it_evaluates() {
 #[test]
 fn tries_the_buffers_last_and_says_what_is_needed() {
     let place = |place: u64, number: u64| (place << 32) | number;
-    let (mut short, mut enough, mut exact) = ([7; 8], [7; 9], 7);
-    let mut cut = |left: &mut [i32], right: &mut [i32], num| {
-        subdivide(1, &SIDES, num, 2, left, right, &mut exact)
+    let (mut short, mut enough, mut exact) = ([7; 9], [7; 10], 7);
+    let mut cut = |left: &mut [i32], right: &mut [i32], sum, num| {
+        subdivide(1, sum, &SIDES, num, 2, left, right, &mut exact)
     };
-    assert_eq!(cut(&mut short, &mut enough, 1), place(9, 12));
-    assert_eq!(cut(&mut enough, &mut short, 1), place(9, 12));
-    assert_eq!(cut(&mut short, &mut enough, 3), 5);
-    assert_eq!(elevate(1, &SIDES, &mut enough, &mut exact), place(13, 12));
+    assert_eq!(cut(&mut short, &mut enough, 65_534, 1), place(10, 12));
+    assert_eq!(cut(&mut enough, &mut short, 0, 1), place(10, 12));
+    assert_eq!(cut(&mut short, &mut enough, 65_535, 1), 17);
+    assert_eq!(cut(&mut short, &mut enough, 65_535, 3), 5);
+    let mut raise = |sum| elevate(1, sum, &SIDES, &mut enough, &mut exact);
+    assert_eq!([raise(65_534), raise(65_535)], [place(14, 12), 17]);
+    assert_eq!(read_card(CARD, &mut short), place(10, 12));
     assert_eq!(
         evaluate(1, &SIDES, 0, 1, &mut short, &mut [0.0; 3], &mut exact),
         place(4, 12)
     );
     assert_eq!(bounds(1, &SIDES, &mut []), place(4, 12));
     assert_eq!(write_card(1, &SIDES, &mut [0; 92]), place(93, 12));
-    assert_eq!((short, enough, exact), ([7; 8], [7; 9], 7));
+    assert_eq!((short, enough, exact), ([7; 9], [7; 10], 7));
     let mut out = [7; 15];
     assert_eq!(panel(CARD, 1, 2, &mut out), 12);
     assert_eq!(panel(CARD, 3, 2, &mut out), 5);
@@ -88,13 +94,15 @@ fn chooses_and_stores_three_numbers() {
     ];
     let call = |list: &[Setting], depth, room: usize| {
         let mut choice = [7; 5];
-        let answer = choose_setting(1, &SIDES, list, depth, 1, &mut choice[..room]);
+        let answer = choose_setting(1, 65_534, &SIDES, list, depth, 1, &mut choice[..room]);
         (answer, choice)
     };
     let (kept, place) = ([7; 5], |place: u64, number: u64| (place << 32) | number);
     assert_eq!(call(&list[..2], 0, 5), (0, [1, 1, 65_535, 7, 7]));
     assert_eq!(call(&list[..1], 0, 3), (0, [2, 0, 0, 7, 7]));
     assert_eq!(call(&list[..1], 0, 2), (place(3, 12), kept));
+    assert_eq!(call(&list[..1], 1, 3), (0, [2, 0, 0, 7, 7]));
+    assert_eq!(call(&list[..1], 2, 2), (17, kept));
     assert_eq!(call(&list[..2], 13, 2), (8, kept));
     assert_eq!(call(&list, 13, 2), (place(2, 7), kept));
     assert_eq!(call(&[list[2]; 1_000], 13, 2), (place(1_000, 16), kept));

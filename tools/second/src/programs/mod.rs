@@ -9,4 +9,7 @@ pub mod refusal;
 pub mod replay;
 pub mod session;
 pub mod slow;
+#[cfg(test)]
+mod sum_faults;
+pub mod sums;
 pub mod text;

@@ -48,9 +48,9 @@ struct Reader<'a> {
 
 /// The numbers that a column may have.
 const DEGREE: RangeInclusive<i64> = 1..=MAX_DEGREE as i64;
-const KIND: RangeInclusive<i64> = 0..=8;
+const KIND: RangeInclusive<i64> = 0..=9;
 const WORD: RangeInclusive<i64> = 0..=u32::MAX as i64;
-const SETTING: RangeInclusive<i64> = 0..=u16::MAX as i64;
+const HALF_WORD: RangeInclusive<i64> = 0..=u16::MAX as i64;
 const BOX_SIDE: RangeInclusive<i64> = i32::MIN as i64..=i32::MAX as i64;
 const ANY: RangeInclusive<i64> = i64::MIN..=i64::MAX;
 
@@ -112,7 +112,11 @@ impl Reader<'_> {
                 let [_, j] = self.line([KIND, WORD])?;
                 Call::EvaluateSixteenths(j as u32)
             }
-            _ => Call::ChooseSetting(self.settings()?),
+            8 => Call::ChooseSetting(self.settings()?),
+            _ => {
+                let [_, sum] = self.line([KIND, HALF_WORD])?;
+                Call::SetSum(sum as u16)
+            }
         }))
     }
 
@@ -121,7 +125,7 @@ impl Reader<'_> {
         let [_, depth, budget, count] = self.line([KIND, WORD, WORD, WORD])?;
         let mut records = Vec::new();
         for _ in 0..count {
-            let columns = [BOX_SIDE, BOX_SIDE, BOX_SIDE, BOX_SIDE, SETTING];
+            let columns = [BOX_SIDE, BOX_SIDE, BOX_SIDE, BOX_SIDE, HALF_WORD];
             let [limits @ .., number] = self.line(columns)?;
             let number = number as u16;
             records.push(Record { limits, number });
@@ -211,8 +215,12 @@ mod tests {
         let sound = line_of(&[0, 1]);
         let after = |line: &[u8]| answers_to(&[&card, line].concat(), false);
         assert_eq!(after(b""), whole(sound.clone()));
-        let bad: [(&[u8], usize); 16] = [
-            (&line_of(&[9]), 1),
+        let bad: [(&[u8], usize); 20] = [
+            (&line_of(&[10]), 1),
+            (&line_of(&[9]), 11),
+            (&line_of(&[9, -1]), 11),
+            (&line_of(&[9, 65_536]), 11),
+            (&line_of(&[9, 65_535, 0]), 21),
             (&line_of(&[8]), 11),
             (&line_of(&[8, 1, -1, 1]), 21),
             (&line_of(&[8, 1, 1, 4_294_967_296]), 31),
@@ -281,18 +289,18 @@ mod tests {
 
     #[test]
     fn goes_on_with_the_zero_curve() {
-        let given: [&[i64]; 7] = [
+        let given: [&[i64]; 9] = [
             &[1],
             &[0, 1, -3, -3],
             &[1, 3, 9, 2],
             &[5],
             &[1, 1, 0],
             &[4],
+            &[9, 65_535],
+            &[4],
             &[0],
         ];
-        assert_eq!(
-            answers_to(&text(&given), true),
-            whole(text(&[&[3, 1], &[1, 0], &[1, 0], &[1, 0]]))
-        );
+        let answers: [&[i64]; 6] = [&[3, 1], &[1, 0], &[1, 0], &[1, 0], &[0, 65_535], &[1, 0]];
+        assert_eq!(answers_to(&text(&given), true), whole(text(&answers)));
     }
 }

@@ -10,6 +10,7 @@ use crate::model::{Parameter, MAX_DEGREE, MAX_DEN};
 use crate::programs::examples;
 use crate::programs::process::{run, Written};
 use crate::programs::reader::{answers_to, Answers, Fault};
+use crate::programs::sums::count_sums;
 use crate::programs::text::{case, text_of, Case};
 use crate::rng::Rng;
 use crate::tally::{disagreement, visible, Tally};
@@ -44,8 +45,10 @@ pub fn compare_examples(program: &Path, tally: &mut Tally) -> Result<(), String>
 
 /// Compares a text of drawn cases, with places and without.
 pub fn compare_cases(program: &Path, rng: &mut Rng, tally: &mut Tally) -> Result<(), String> {
-    let mut text = cases_text(FEW, rng);
-    (0..DEEP).for_each(|_| text.extend(text_of(&deep_case(rng))));
+    let mut cases: Vec<Case> = (0..FEW).map(|_| case(rng)).collect();
+    cases.extend((0..DEEP).map(|_| deep_case(rng)));
+    cases.iter().for_each(|case| count_sums(case, tally));
+    let text: Vec<u8> = cases.iter().flat_map(text_of).collect();
     for places in [false, true] {
         compare(program, &text, places, Row::ReplayTexts, tally)?;
     }
@@ -145,9 +148,9 @@ fn count_choice(line: &[u8], tally: &mut Tally) {
         .for_each(|kind| tally.cover(Line::ReplayChoices, kind));
 }
 
-/// Counts the j of a second reading, whose call line is the only one of two columns.
+/// Counts the j of a second reading, whose call line has two columns, the first one 7.
 fn count_sixteenth(line: &[u8], tally: &mut Tally) {
-    if line.len() != 2 * COLUMN {
+    if line.len() != 2 * COLUMN || number_of(&line[..COLUMN]) != Some(7) {
         return;
     }
     let kind = match number_of(&line[COLUMN..]) {

@@ -1,6 +1,6 @@
 //! What `replay` answers: the line of each answer, and what it holds between two lines.
 
-use crate::call::{Call, Kept};
+use crate::call::Call;
 use crate::card::line_of;
 use crate::door::choice_of;
 use crate::ledger::{Entry, Ledger};
@@ -53,18 +53,15 @@ impl Session {
                 answer.push(self.curve.degree as i64);
                 answer.extend(left.control_points().as_flattened());
                 answer.extend(right.control_points().as_flattened());
-                answer.push(pieces.exact.into());
-                self.curve = match kept {
-                    Kept::Left => left,
-                    Kept::Right => right,
-                };
+                answer.extend([i64::from(left.sum), pieces.exact.into()]);
+                self.curve = kept.of([left, right]);
             }
             Call::Elevate => {
                 let elevated = self.curve.elevate()?;
                 self.curve = elevated.result;
                 answer.push(self.curve.degree as i64);
                 answer.extend(self.curve.control_points().as_flattened());
-                answer.push(elevated.exact.into());
+                answer.extend([i64::from(self.curve.sum), elevated.exact.into()]);
             }
             Call::Bounds => answer.extend(self.curve.bounds()?),
             Call::Search(search) => answer.extend(search.over(&self.curve)?.map(i64::from)),
@@ -72,14 +69,19 @@ impl Session {
                 let chosen = settings.choose(&self.curve)?;
                 answer.extend(choice_of(chosen).map(i64::from));
             }
+            Call::SetSum(sum) => {
+                self.curve.sum = *sum;
+                answer.push((*sum).into());
+            }
         }
         Ok(line_of(&answer))
     }
 
-    /// The line of either reading: the sides, the ledger's sum, the exact flag, and behind two spaces the
-    /// place.
+    /// The line of either reading: the sides, the curve's sum plus its degree, the exact flag, and behind two
+    /// spaces the place.
     fn evaluated(&self, load: &Flagged<Rectangle>, entry: &Entry) -> Vec<u8> {
-        let last = [entry.sum, load.exact.into()];
+        let sum = usize::from(self.curve.sum) + self.curve.degree;
+        let last = [sum as i64, load.exact.into()];
         let mut line = line_of(&[&[0], &load.result[..], &last].concat());
         if let Some(place) = self.places.then(|| shown(entry)).flatten() {
             line.pop();
@@ -106,7 +108,35 @@ pub fn shown(entry: &Entry) -> Option<String> {
 #[cfg(test)]
 mod tests {
     use super::*;
+    use crate::call::Kept;
     use crate::model::Parameter;
+
+    /// The place stays where it is, and a reading is not refused by its sum.
+    #[test]
+    fn shows_the_sum_that_the_curve_carries() {
+        let card = Ok(Curve::new(&[[0; 4], [4, 4, 0, 0]]));
+        let (mut session, _) = Session::open(card, true);
+        let half = Parameter { num: 1, den: 2 };
+        session.answer(&Call::Subdivide(half, Kept::Right));
+        let set = session.answer(&Call::SetSum(65_534));
+        assert_eq!(set, b"         0     65534\n");
+        let cut = session.answer(&Call::Subdivide(half, Kept::Left));
+        assert!(
+            cut.ends_with(b"     65535         1\n"),
+            "{}",
+            cut.escape_ascii()
+        );
+        let refused = [Call::Subdivide(half, Kept::Left), Call::Elevate];
+        for call in refused {
+            assert_eq!(session.answer(&call), b"        17         0\n");
+        }
+        let read = session.answer(&Call::Evaluate(half));
+        assert!(
+            read.ends_with(b"     65536         0  5/8\n"),
+            "{}",
+            read.escape_ascii()
+        );
+    }
 
     #[test]
     fn shows_a_place_of_at_most_twenty_digits() {

@@ -2,7 +2,7 @@
 
 use crate::call::{Call, Kept};
 use crate::card::{card_of, line_of};
-use crate::draw::{curve_on, degree, list, put_choice, spoil, TOO_FAR_FOR_A_CARD};
+use crate::draw::{curve_on, degree, large_sum, list, put_choice, spoil, sum, TOO_FAR_FOR_A_CARD};
 use crate::grid::Grid;
 use crate::model::{Curve, Parameter};
 use crate::rng::Rng;
@@ -15,7 +15,8 @@ pub struct Case {
     pub calls: Vec<Call>,
 }
 
-/// A drawn case; one in three has a choice from a list of settings, and one card in twelve is spoilt.
+/// A drawn case; one in three has a choice from a list of settings, one in two another sum of steps, and one
+/// card in twelve is spoilt.
 pub fn case(rng: &mut Rng) -> Case {
     let degree = degree(rng);
     let grid = Grid::drawn(rng, degree);
@@ -25,10 +26,23 @@ pub fn case(rng: &mut Rng) -> Case {
     if rng.one_in(3) {
         put_choice(rng, &bounds, &mut calls);
     }
+    if rng.one_in(2) {
+        put_sum(rng, degree, &mut calls);
+    }
     if rng.one_in(12) {
         spoil(rng, &mut card, &TOO_FAR_FOR_A_CARD);
     }
     Case { card, calls }
+}
+
+/// Puts another sum of steps, two in three of them large, somewhere among the calls.
+fn put_sum(rng: &mut Rng, degree: usize, calls: &mut Vec<Call>) {
+    let set = if rng.one_in(3) {
+        sum(rng, degree)
+    } else {
+        large_sum(rng, degree)
+    };
+    calls.insert(rng.up_to(calls.len()), Call::SetSum(set));
 }
 
 /// A call's line, and those of the records behind it where it is given some.
@@ -46,6 +60,7 @@ pub fn call_line(call: &Call) -> Vec<u8> {
         }
         Call::EvaluateSixteenths(j) => line_of(&[7, (*j).into()]),
         Call::ChooseSetting(settings) => settings_lines(settings),
+        Call::SetSum(sum) => line_of(&[9, (*sum).into()]),
     }
 }
 

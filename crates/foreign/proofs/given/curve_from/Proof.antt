@@ -22,10 +22,10 @@ abbrev rects : List ℤ → ℕ → Rect
 rects sides k = rectAt sides (4 * k)
 
 abbrev Inv-loop : tie.InvT-loop
-Inv-loop degree sides last points₀ k₀ points k = (k ≤ last) × (points ≡ pointsOf k (rects sides))
+Inv-loop degree sum sides last points₀ k₀ points k = (k ≤ last) × (points ≡ pointsOf k (rects sides))
 
 abbrev μ-loop : tie.MeasureT-loop
-μ-loop degree sides last points₀ k₀ points k = last - k
+μ-loop degree sum sides last points₀ k₀ points k = last - k
 
 -- the last place is one of the record
 last-few : (c : tie.After-last-place Inv-loop μ-loop) → c .last-place .result ≤ maxDegree

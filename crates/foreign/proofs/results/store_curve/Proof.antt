@@ -1,16 +1,18 @@
--- `store_curve` meets its contract. The invariant: behind the first number stand the sides of the first k rectangles. The measure is what is left of them.
+-- `store_curve` meets its contract. The invariant: behind the first two numbers stand the sides of the first k rectangles. The measure is what is left of them.
 -- Assumes nothing.
 use mathlib.Core.Path.{_≡_, ap, _∙_}
 use mathlib.Core.List.{List, _∷_}
 use Prim.Native.Nat.{ℕ, _+_, _*_, _-_, _≤_}
 use native.Mathlib.Omega.{arith}
+use borrow.Author.Needs.{needs}
 use lib.IntN.{ℤ, pos}
 use lib.ListN.{length, getD, set, length-set}
 use lib.Seq.{sets}
 use mir.Syntax.{w32}
-use mir.Val.{toZ}
+use mir.Val.{toZ, ofZ}
 use Rattle.curve.specs.declared.Curve.{Curve}
 use Rattle.curve.specs.Curve.{point}
+use Rattle.curve.proofs.Machine.{told}
 use Rattle.card_text.specs.Card.{sides}
 use Rattle.foreign.specs.Numbers.{sidesTo, curveNumbers}
 use Rattle.foreign.proofs.Lent.{front, front-length, front-same, front-next}
@@ -18,11 +20,11 @@ use Rattle.foreign.proofs.Numbers.{sides-length, sides-next, curve-leng
 use Rattle.foreign.proofs.results.store_curve.Statement.{statement}
 use Rattle.foreign.proofs.results.store_curve.Tie as tie
 
--- a list's first number, and the sides of the first k rectangles
+-- a list's first two numbers, and the sides of the first k rectangles
 abbrev stored : List ℤ → Curve → ℕ → List ℤ
-stored out c k = getD out 0 (pos 0) ∷ sidesTo k (point c)
+stored out c k = getD out 0 (pos 0) ∷ getD out 1 (pos 0) ∷ sidesTo k (point c)
 
-stored-length : (out : List ℤ) (c : Curve) (k : ℕ) → length (stored out c k) ≡ 1 + 4 * k
+stored-length : (out : List ℤ) (c : Curve) (k : ℕ) → length (stored out c k) ≡ 2 + 4 * k
 stored-length out c k = let e = sides-length (point c) k in omega arith
 
 abbrev Inv-loop : tie.InvT-loop
@@ -32,7 +34,7 @@ abbrev μ-loop : tie.MeasureT-loop
 μ-loop out₀ c n k₀ out k = n + 1 - k
 
 -- the list has room for the whole curve
-long-enough : (s : tie.Start Inv-loop μ-loop) → 1 + 4 * (s .args .t2 .degree + 1) ≤ length (s .args .out .now)
+long-enough : (s : tie.Start Inv-loop μ-loop) → 2 + 4 * (s .args .t2 .degree + 1) ≤ length (s .args .out .now)
 long-enough s = let long = curve-length (s .args .t2) in let room = s .pre .1 in omega arith
 
 -- and keeps its length
@@ -77,9 +79,9 @@ loop-again c =
     let room = long-enough (l .before) in (
       omega arith,
       c .before .store-rect .ensures
-          ∙ ap (λ (o : List ℤ). sets o (1 + 4 * k) (sides (P k))) (l .loop .inv .1)
-          ∙ front-next (stored (a .out .now) (a .t2) k) (sides (P k)) (a .out .now) (1 + 4 * k) (stored-length (a .out .now) (a .t2) k) (omega arith)
-          ∙ ap (λ (zs : List ℤ). front (getD (a .out .now) 0 (pos 0) ∷ zs) (a .out .now)) (sides-next P k),
+          ∙ ap (λ (o : List ℤ). sets o (2 + 4 * k) (sides (P k))) (l .loop .inv .1)
+          ∙ front-next (stored (a .out .now) (a .t2) k) (sides (P k)) (a .out .now) (2 + 4 * k) (stored-length (a .out .now) (a .t2) k) (omega arith)
+          ∙ ap (λ (zs : List ℤ). front (getD (a .out .now) 0 (pos 0) ∷ getD (a .out .now) 1 (pos 0) ∷ zs) (a .out .now)) (sides-next P k),
     )
 
 cast-out : tie.Need-cast-out Inv-loop μ-loop
@@ -88,18 +90,28 @@ cast-out c = let few = c .before .before .pre .0 in record { sfits = omega arith
 slice-set-from-out : tie.Need-slice-set-from-out Inv-loop μ-loop
 slice-set-from-out c = let same = kept (c .before) in let room = long-enough (c .before .before) in omega arith
 
+slice-set-from-out-2 : tie.Need-slice-set-from-out-2 Inv-loop μ-loop
+slice-set-from-out-2 c =
+    let l = c .before .before in
+    let same = length-set (l .loop .out) 0 (toZ w32 (l .before .args .t2 .degree)) ∙ kept l in
+    let room = long-enough (l .before) in
+    omega arith
+
 same-length : tie.Need-same-length Inv-loop μ-loop
-same-length c = length-set (c .before .loop .out) 0 (toZ w32 (c .before .before .args .t2 .degree)) ∙ kept (c .before)
+same-length c =
+    let l = c .before .before in
+    let first = set (l .loop .out) 0 (toZ w32 (l .before .args .t2 .degree)) in
+    length-set first 1 (toZ w32 (ofZ w32 (c .sum-number .result))) ∙ length-set (l .loop .out) 0 (toZ w32 (l .before .args .t2 .degree)) ∙ kept l
 
 returns : tie.Need-returns Inv-loop μ-loop
 unfolding curveNumbers
 returns c =
-    let l = c .before in
+    let l = c .before .before in
     let a = l .before .args in
     let few = l .before .pre .0 in
     let done : l .loop .k ≡ a .t2 .degree + 1 = omega arith in
-    rw (as-signed (a .t2 .degree) (omega arith))
-    (ap (λ (o : List ℤ). set o 0 (pos (a .t2 .degree))) (l .loop .inv .1 ∙ ap (λ (k : ℕ). front (stored (a .out .now) (a .t2) k) (a .out .now)) done))
+    rw (as-signed (a .t2 .degree) (omega arith), told (c .sum-number .result) (c .sum-number .ok), c .sum-number .ensures)
+    (ap (λ (o : List ℤ). set (set o 0 (pos (a .t2 .degree))) 1 (pos (a .t2 .sum))) (l .loop .inv .1 ∙ ap (λ (k : ℕ). front (stored (a .out .now) (a .t2) k) (a .out .now)) done))
 
 pub store-curve-spec : {M : Type 1} → statement M
 store-curve-spec =
@@ -119,5 +131,7 @@ store-curve-spec =
     loop-again
     cast-out
     slice-set-from-out
+    (λ c κs. search needs)
+    slice-set-from-out-2
     same-length
     returns)

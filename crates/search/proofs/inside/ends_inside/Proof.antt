@@ -21,7 +21,7 @@ accepted c =
     number-facts (a .c) (a .limits) (a .depth) (a .budget) (number-passed (c .before .before .search-refusal .ensures) (c .if1 .left))
 
 inside-count-requires : tie.Need-inside-count-requires
-inside-count-requires c κs = (omega arith, accepted c .few)
+inside-count-requires c κs = (omega arith, accepted c .effort .few)
 
 returns-2 : tie.Need-returns-2
 returns-2 c =

@@ -15,7 +15,7 @@ returns : tie.Need-returns
 returns c =
     let a = c .before .before .before .args in
     let test = c .before .before .is-box in
-    c .ended .ensures ∙ sym (checked-bad (a .span) (a .count) (a .depth) (a .budget) (a .at) (a .s) (sym (test .ensures) ∙ not-true (test .result) (c .before .if1 .taken)))
+    c .ended .ensures ∙ sym (checked-bad (a .c) (a .span) (a .count) (a .depth) (a .budget) (a .at) (a .s) (sym (test .ensures) ∙ not-true (test .result) (c .before .if1 .taken)))
 
 -- past the first test the box is good
 good : (c : tie.Else1) → isBox (c .before .before .args .s .limits) ≡ true
@@ -24,13 +24,13 @@ good c = sym (c .before .is-box .ensures) ∙ not-false (c .before .is-box .resu
 returns-2 : tie.Need-returns-2
 returns-2 c =
     let a = c .before .before .before .before .args in
-    c .due-at .ensures ∙ sym (checked-next (a .span) (a .count) (a .depth) (a .budget) (a .at) (a .s) (good (c .before .before)) (lt-ltb _ _ (c .before .if2 .taken)))
+    c .due-at .ensures ∙ sym (checked-next (a .c) (a .span) (a .count) (a .depth) (a .budget) (a .at) (a .s) (good (c .before .before)) (lt-ltb _ _ (c .before .if2 .taken)))
 
 returns-3 : tie.Need-returns-3
 returns-3 c =
     let a = c .before .before .before .before .before .args in
     c .started-unless .ensures ∙ ap (startedUnless (a .span) true) (c .before .effort-refusal .ensures)
-    ∙ sym (checked-last (a .span) (a .count) (a .depth) (a .budget) (a .at) (a .s) (good (c .before .before .before)) (le-ltb _ _ (c .before .before .if2 .left)))
+    ∙ sym (checked-last (a .c) (a .span) (a .count) (a .depth) (a .budget) (a .at) (a .s) (good (c .before .before .before)) (le-ltb _ _ (c .before .before .if2 .left)))
 
 pub checked-spec : {M : Type 1} → statement M
 checked-spec =

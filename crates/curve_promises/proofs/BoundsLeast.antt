@@ -13,18 +13,18 @@ use Rattle.rational.proofs.Quotient.{convex-lower, convex-upper}
 use Rattle.bernstein.specs.Affine.{affine}
 use Rattle.bernstein.specs.DeCasteljau.{value}
 use Rattle.bernstein.proofs.Table.{table-property}
 use Rattle.curve.specs.declared.Rect.{Rect}
 use Rattle.curve.specs.declared.Curve.{Curve}
 use Rattle.curve.specs.declared.Evaluation.{Evaluation}
 use Rattle.curve.specs.declared.Enclosure.{Enclosure}
 use Rattle.curve.specs.Rect.{Coordinate, resistance, reactance, side, Outward, Inside, affineRect, least, greatest, hullInterval, hull}
 use Rattle.curve.specs.Curve.{point, loadOf, hullTo, boundsOf}
 use Rattle.curve.specs.Refusals.{AcceptedAt}
 use Rattle.curve.specs.Calls.{bounded}
-use Rattle.curve.specs.Promises.{LeastBounds, LoadInBounds}
+use Rattle.curve_promises.specs.Promises.{LeastBounds, LoadInBounds}
 use Rattle.curve.proofs.Accepted.{parameter-facts}
 use Rattle.curve.proofs.Answers.{evaluated-accepted, bounded-accepted}
 use Rattle.curve.proofs.Points.{side-affine}
 
 -- ---- one side
 

@@ -8,16 +8,16 @@ use lib.IntN.{ℤ, pos, negsuc, natAbs}
 use lib.Ieee.{Float}
 use lib.Ieee.Exact.{HasValue}
 use Rattle.rational.specs.Rounding.{Rounding, down, up}
 use Rattle.curve.specs.declared.Curve.{Curve}
 use Rattle.curve.specs.declared.Rect.{Rect}
 use Rattle.curve.specs.declared.Ohms.{Ohms}
 use Rattle.curve.specs.declared.Subdivision.{Subdivision}
 use Rattle.curve.specs.Limits.{maxDegree, stepsPerOhm}
 use Rattle.curve.specs.Rect.{Coordinate, resistance, reactance, side, Inside, inRange, zeroRect}
-use Rattle.curve.specs.Curve.{point, SameCurve}
-use Rattle.curve.specs.Refusals.{Accepted, AcceptedAt}
+use Rattle.curve.specs.Curve.{point, pieceSum, elevatedSum, SameButSum, SameCurve}
+use Rattle.curve.specs.Refusals.{Accepted, AcceptedAt, AcceptedSum}
 use Rattle.curve.specs.Ohms.{ohm}
 use Rattle.curve.specs.Calls.{evaluated, subdivided, bounded, elevated}
 
 -- evaluation at 0/den is control point 0, and at den/den control point n
 abbrev pub EndPoints : Type 0
@@ -25,13 +25,13 @@ EndPoints =
     (c : Curve) (den : ℕ) → Accepted c → AcceptedAt den den →
     (evaluated c 0 den .load ≡ point c 0) × (evaluated c den den .load ≡ point c (c .degree))
 
--- evaluation and subdivision at one parameter have equal flags
+-- evaluation and subdivision at one parameter have equal flags, where the pieces' sum is not refused
 abbrev pub SameFlag : Type 0
-SameFlag = (c : Curve) (num den : ℕ) → evaluated c num den .exact ≡ subdivided c num den .exact
+SameFlag = (c : Curve) (num den : ℕ) → AcceptedSum (pieceSum c) → evaluated c num den .exact ≡ subdivided c num den .exact
 
--- both are lit
+-- evaluation is lit, and so is subdivision where the pieces' sum is not refused
 abbrev pub Lit : Curve → ℕ → ℕ → Type 0
-Lit c num den = (evaluated c num den .exact ≡ true) × (subdivided c num den .exact ≡ true)
+Lit c num den = (evaluated c num den .exact ≡ true) × (AcceptedSum (pieceSum c) → subdivided c num den .exact ≡ true)
 
 -- so they are at 0/den and at den/den
 abbrev pub LitEnds : Type 0
@@ -40,8 +40,8 @@ LitEnds = (c : Curve) (den : ℕ) → Accepted c → AcceptedAt den den → Lit 
 -- only an accepted call is lit: a refused one's flag is dark
 pub record LitAccepted : Type 0 where
   pub evaluating : (c : Curve) (num den : ℕ) → evaluated c num den .exact ≡ true → Accepted c × AcceptedAt num den
-  pub subdividing : (c : Curve) (num den : ℕ) → subdivided c num den .exact ≡ true → Accepted c × AcceptedAt num den
-  pub elevating : (c : Curve) → elevated c .exact ≡ true → Accepted c × (c .degree < maxDegree)
+  pub subdividing : (c : Curve) (num den : ℕ) → subdivided c num den .exact ≡ true → Accepted c × AcceptedAt num den × AcceptedSum (pieceSum c)
+  pub elevating : (c : Curve) → elevated c .exact ≡ true → Accepted c × (c .degree < maxDegree) × AcceptedSum (elevatedSum c)
 
 -- equal fractions, both accepted, give equal answers
 abbrev pub EqualFractions : Type 0
@@ -49,14 +49,12 @@ EqualFractions =
     (c : Curve) (num den num′ den′ : ℕ) → AcceptedAt num den → AcceptedAt num′ den′ → num * den′ ≡ num′ * den →
     (evaluated c num den ≡ evaluated c num′ den′) × (subdivided c num den ≡ subdivided c num′ den′)
 
--- equal curves give equal answers: nothing past the degree is read
-abbrev pub PastUnread : Type 0
-PastUnread =
-    (c e : Curve) → SameCurve c e →
-    ((num den : ℕ) → evaluated c num den ≡ evaluated e num den)
-    × ((num den : ℕ) → subdivided c num den ≡ subdivided e num den)
-    × (elevated c ≡ elevated e)
-    × (bounded c ≡ bounded e)
+-- equal curves give equal answers: nothing past the degree is read, and by evaluation and bounds no sum of steps
+pub record PastUnread : Type 0 where
+  pub evaluating : (c e : Curve) → SameButSum c e → (num den : ℕ) → evaluated c num den ≡ evaluated e num den
+  pub bounding : (c e : Curve) → SameButSum c e → bounded c ≡ bounded e
+  pub subdividing : (c e : Curve) → SameCurve c e → (num den : ℕ) → subdivided c num den ≡ subdivided e num den
+  pub elevating : (c e : Curve) → SameCurve c e → elevated c ≡ elevated e
 
 -- the pieces of an accepted curve
 pub record Pieces (c : Curve) (s : Subdivision) (load : Rect) : Type 0 where
@@ -64,19 +62,22 @@ pub record Pieces (c : Curve) (s : Subdivision) (load : Rect) : Type 0 where
   pub rightAccepted : Accepted (s .right)
   pub leftDegree : s .left .degree ≡ c .degree
   pub rightDegree : s .right .degree ≡ c .degree
+  pub leftSum : s .left .sum ≡ c .sum + c .degree
+  pub rightSum : s .right .sum ≡ c .sum + c .degree
   pub leftLast : point (s .left) (c .degree) ≡ load
   pub rightFirst : point (s .right) 0 ≡ load
 
--- both pieces are accepted curves of the same degree, and the load is the left one's last and the right one's first control point
+-- both pieces are accepted curves of the same degree, with the parent's sum plus its degree, and the load is the left one's last and the right one's first control point
 abbrev pub GoodPieces : Type 0
 GoodPieces =
-    (c : Curve) (num den : ℕ) → Accepted c → AcceptedAt num den →
+    (c : Curve) (num den : ℕ) → Accepted c → AcceptedAt num den → AcceptedSum (pieceSum c) →
     Pieces c (subdivided c num den) (evaluated c num den .load)
 
--- an accepted curve below the highest degree, elevated, is accepted, of degree n + 1
+-- an accepted curve below the highest degree, elevated, is accepted, of degree n + 1, with one more in its sum
 abbrev pub GoodElevation : Type 0
 GoodElevation =
-    (c : Curve) → Accepted c → c .degree < maxDegree → Accepted (elevated c .curve) × (elevated c .curve .degree ≡ c .degree + 1)
+    (c : Curve) → Accepted c → c .degree < maxDegree → AcceptedSum (elevatedSum c) →
+    Accepted (elevated c .curve) × (elevated c .curve .degree ≡ c .degree + 1) × (elevated c .curve .sum ≡ c .sum + 1)
 
 -- bounds holds every control point, and lies inside every rectangle that does
 abbrev pub LeastBounds : Type 0

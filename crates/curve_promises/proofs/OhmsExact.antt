@@ -15,10 +15,10 @@ use lib.Ieee.Fits.{and-l, and-r, down-pos}
 use lib.Ieee.Exact.{HasValue, round-exact}
 use lib.Ieee.Scale.{round-same}
 use lib.Ieee.Back.{round-whole}
 use Rattle.curve.specs.Limits.{maxSide, stepsPerOhm}
 use Rattle.curve.specs.Rect.{inRange}
 use Rattle.curve.specs.Ohms.{ohm}
-use Rattle.curve.specs.Promises.{ExactOhms}
+use Rattle.curve_promises.specs.Promises.{ExactOhms}
 
 -- a side's size
 in-range-size : (z : ℤ) → T (inRange z) → natAbs z ≤ maxSide

@@ -1,4 +1,4 @@
-//! The ledger of a case: the sum of steps, and the stretch of the starting curve that is left.
+//! The stretch of the starting curve that is left, and the places on it.
 
 use std::fmt;
 
@@ -96,44 +96,6 @@ impl Stretch {
     }
 }
 
-/// The sum of steps, and the stretch where places are asked for.
-pub struct Ledger {
-    sum: u64,
-    stretch: Option<Stretch>,
-}
-
-impl Ledger {
-    pub fn open(places: bool) -> Ledger {
-        Ledger {
-            sum: 0,
-            stretch: places.then(Stretch::whole),
-        }
-    }
-
-    /// An accepted cut of a curve of this degree at num/den.
-    pub fn cut(&mut self, degree: u32, num: u32, den: u32, kept: Kept) {
-        self.sum += u64::from(degree);
-        if let Some(stretch) = &mut self.stretch {
-            stretch.cut(num, den, kept);
-        }
-    }
-
-    /// An accepted raising.
-    pub fn raise(&mut self) {
-        self.sum += 1;
-    }
-
-    /// The sum of an accepted reading of a curve of this degree.
-    pub fn sum(&self, degree: u32) -> u64 {
-        self.sum + u64::from(degree)
-    }
-
-    /// The place of an accepted reading at num/den, where it is asked for and can be shown.
-    pub fn place(&self, num: u32, den: u32) -> Option<Place> {
-        self.stretch.as_ref()?.place(num, den)
-    }
-}
-
 #[cfg(test)]
 mod tests {
     use super::*;
@@ -186,14 +148,5 @@ mod tests {
         // Each pair of cuts leaves the stretch with the same middle.
         assert_eq!(shown(&stretch, 1, 3), None);
         assert_eq!(shown(&stretch, 1, 2).unwrap(), "1/2");
-    }
-
-    #[test]
-    fn adds_up_the_steps() {
-        let mut ledger = Ledger::open(false);
-        ledger.cut(2, 1, 3, Kept::Right);
-        ledger.raise();
-        assert_eq!(ledger.sum(3), 2 + 1 + 3);
-        assert_eq!(ledger.place(1, 2), None);
     }
 }

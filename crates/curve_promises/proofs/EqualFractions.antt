@@ -11,17 +11,17 @@ use Rattle.rational.proofs.Quotient.{quotient-equal}
 use Rattle.rational.proofs.Divisible.{divisible-equal}
 use Rattle.bernstein.specs.Affine.{affine, affineExact}
 use Rattle.bernstein.specs.DeCasteljau as DeCasteljau
 use Rattle.curve.specs.declared.Rect.{Rect}
 use Rattle.curve.specs.declared.Refusal.{Refusal}
 use Rattle.curve.specs.Rect.{side, affineRect, exactRect}
-use Rattle.curve.specs.Curve.{point, curveOf, mapAt, exactAt, loadOf, leftOf, rightOf, tableExact}
-use Rattle.curve.specs.Refusals.{_orElse_, curveRefusal}
-use Rattle.curve.specs.Calls.{callRefusal}
-use Rattle.curve.specs.Promises.{EqualFractions}
+use Rattle.curve.specs.Curve.{point, curveOf, mapAt, exactAt, pieceSum, loadOf, leftOf, rightOf, tableExact}
+use Rattle.curve.specs.Refusals.{_orElse_, curveRefusal, sumRefusal}
+use Rattle.curve.specs.Calls.{callRefusal, subdivisionRefusal}
+use Rattle.curve_promises.specs.Promises.{EqualFractions}
 use Rattle.curve.proofs.Points.{side-affine}
 use Rattle.curve.proofs.RectSides.{affine-rect-is, exact-rect-equal}
 use Rattle.curve.proofs.Accepted.{parameter-facts}
-use Rattle.curve.proofs.EqualAnswers.{evaluated-equal, subdivided-equal}
+use Rattle.curve_promises.proofs.EqualAnswers.{evaluated-equal, subdivided-equal}
 
 -- two pairs of weights in proportion to their divisors
 module _ (s t d s′ t′ d′ : ℕ) (positive : 0 < d) (positive′ : 0 < d′) (first : s * d′ ≡ s′ * d) (second : t * d′ ≡ t′ * d) where
@@ -69,7 +69,7 @@ module _ (num den num′ den′ : ℕ) (positive : 0 < den) (positive′ : 0 < d
   test-equal = fun-ext (λ p. fun-ext (λ q. tests-equal (den - num) num den (den′ - num′) num′ den′ positive positive′ rest same p q))
 
 pub equal-fractions : EqualFractions
-unfolding loadOf leftOf rightOf tableExact callRefusal
+unfolding loadOf leftOf rightOf tableExact callRefusal subdivisionRefusal
 equal-fractions c num den num′ den′ h h′ same =
     let positive = parameter-facts num den h .factors .positive in
     let positive′ = parameter-facts num′ den′ h′ .factors .positive in
@@ -78,8 +78,8 @@ equal-fractions c num den num′ den′ h h′ same =
     ap₂ (λ (m : Rect → Rect → Rect) (t : Rect → Rect → Bool). DeCasteljau.everyMap m (point c) t (c .degree)) maps (test-equal num den num′ den′ positive positive′ same) in
     let refusals : callRefusal c num den ≡ callRefusal c num′ den′ = ap (λ (r : Refusal). curveRefusal c orElse r) (h ∙ sym h′) in (
       evaluated-equal c c num den num′ den′ refusals (ap (λ (m : Rect → Rect → Rect). DeCasteljau.value m (point c) (c .degree)) maps) flags,
-      subdivided-equal c c num den num′ den′ refusals
-          (ap (λ (m : Rect → Rect → Rect). curveOf (c .degree) (DeCasteljau.left m (point c))) maps)
-          (ap (λ (m : Rect → Rect → Rect). curveOf (c .degree) (DeCasteljau.right m (point c) (c .degree))) maps)
+      subdivided-equal c c num den num′ den′ (ap (λ (r : Refusal). r orElse sumRefusal (pieceSum c)) refusals)
+          (ap (λ (m : Rect → Rect → Rect). curveOf (c .degree) (pieceSum c) (DeCasteljau.left m (point c))) maps)
+          (ap (λ (m : Rect → Rect → Rect). curveOf (c .degree) (pieceSum c) (DeCasteljau.right m (point c) (c .degree))) maps)
           flags,
     )

@@ -5,32 +5,43 @@ use mathlib.Core.Bool.{Bool, true, false}
 use Prim.Native.Nat.{ℕ, suc, _+_, _-_, _≤_, _<_}
 use native.Mathlib.Nat.{sub-zero, sub-self}
 use native.Mathlib.Omega.{arith}
-use lib.Dec.{T}
+use lib.Dec.{T, eqb}
 use lib.IntN.{ℤ}
 use Rattle.rational.specs.Rounding.{Rounding}
 use Rattle.bernstein.specs.Affine.{affine, affineExact}
 use Rattle.bernstein.specs.DeCasteljau.{table}
 use Rattle.bernstein.proofs.EveryMap.{all-at, every-at, every-of}
 use Rattle.curve.specs.declared.Curve.{Curve}
 use Rattle.curve.specs.declared.Elevation.{Elevation}
 use Rattle.curve.specs.declared.Evaluation.{Evaluation}
 use Rattle.curve.specs.declared.Rect.{Rect}
 use Rattle.curve.specs.declared.Subdivision.{Subdivision}
 use Rattle.curve.specs.Rect.{Coordinate, side, exactRect}
 use Rattle.curve.specs.Curve.{point, mapAt, exactAt, tableExact, elevatedExact, elevationExact}
 use Rattle.curve.specs.Refusals.{Accepted, AcceptedAt}
-use Rattle.curve.specs.Calls.{callRefusal, elevationRefusal, evaluated}
-use Rattle.curve.specs.Promises.{SameFlag, Lit, LitEnds, LitAccepted}
+use Rattle.curve.specs.Calls.{callRefusal, subdivisionRefusal, elevationRefusal, evaluated, subdivided}
+use Rattle.curve_promises.specs.Promises.{SameFlag, Lit, LitEnds, LitAccepted}
 use Rattle.curve.proofs.Refused.{by-number}
-use Rattle.curve.proofs.Accepted.{call-accepted, elevation-accepted, parameter-facts}
-use Rattle.curve.proofs.Answers.{evaluated-accepted, evaluated-refused, subdivided-refused, elevated-refused}
-use Rattle.curve.proofs.EndPoints.{start-accepted, exact-rect-first, exact-rect-second}
-use Rattle.curve.proofs.Loads.{evaluated-first}
+use Rattle.curve.proofs.Accepted.{call-accepted, subdivision-accepted, subdivision-refused, elevation-accepted, parameter-facts}
+use Rattle.curve.proofs.Answers.{evaluated-accepted, evaluated-refused, subdivided-accepted, subdivided-refused, elevated-refused}
+use Rattle.curve.proofs.WholeWeight.{exact-rect-first, exact-rect-second}
+use Rattle.curve_promises.proofs.EndPoints.{start-accepted}
 use Rattle.curve.proofs.Points.{sides, side-table}
 use Rattle.curve.proofs.RectSides.{exact-sides}
 
 pub same-flag : SameFlag
-same-flag c num den = sym (ap (λ (e : Evaluation). e .exact) (evaluated-first c num den))
+same-flag c num den room = by-number (callRefusal c num den .number) accepted refused
+  where
+    accepted : callRefusal c num den .number ≡ 0 → evaluated c num den .exact ≡ subdivided c num den .exact
+    accepted h =
+        let (ok, at) = call-accepted c num den h in
+        ap (λ (e : Evaluation). e .exact) (evaluated-accepted c num den ok at)
+        ∙ sym (ap (λ (s : Subdivision). s .exact) (subdivided-accepted c num den ok at room))
+
+    refused : eqb (callRefusal c num den .number) 0 ≡ false → evaluated c num den .exact ≡ subdivided c num den .exact
+    refused e =
+        ap (λ (x : Evaluation). x .exact) (evaluated-refused c num den e)
+        ∙ sym (ap (λ (s : Subdivision). s .exact) (subdivided-refused c num den (subdivision-refused c num den e)))
 
 -- ---- only an accepted call is lit
 
@@ -41,7 +52,7 @@ pub lit-accepted : LitAccepted
 lit-accepted = record {
   evaluating = λ c num den lit. by-number (callRefusal c num den .number) (call-accepted c num den)
       (λ e. lit-dark lit (ap (λ (x : Evaluation). x .exact) (evaluated-refused c num den e)));
-  subdividing = λ c num den lit. by-number (callRefusal c num den .number) (call-accepted c num den)
+  subdividing = λ c num den lit. by-number (subdivisionRefusal c num den .number) (subdivision-accepted c num den)
       (λ e. lit-dark lit (ap (λ (x : Subdivision). x .exact) (subdivided-refused c num den e)));
   elevating = λ c lit. by-number (elevationRefusal c .number) (elevation-accepted c)
       (λ e. lit-dark lit (ap (λ (x : Elevation). x .exact) (elevated-refused c e)));
@@ -64,7 +75,7 @@ module _ (c : Curve) (den : ℕ) (positive : 0 < den) where
 both-lit : (c : Curve) (num den : ℕ) → Accepted c → AcceptedAt num den → tableExact c num den ≡ true → Lit c num den
 both-lit c num den a h lit =
     let first : evaluated c num den .exact ≡ true = ap (λ (e : Evaluation). e .exact) (evaluated-accepted c num den a h) ∙ lit in
-    (first, sym (same-flag c num den) ∙ first)
+    (first, λ room. sym (same-flag c num den room) ∙ first)
 
 pub lit-ends : LitEnds
 lit-ends c den a h =

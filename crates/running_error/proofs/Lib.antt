@@ -1,0 +1,2 @@
+-- The proof of the claim.
+pub mod SumIsTrue

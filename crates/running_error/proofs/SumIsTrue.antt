@@ -1,0 +1,140 @@
+-- The record's sum of steps is true: along every list of calls the sides of the present curve lie within the ledger's sum of the exact ones, and the record's sum is the ledger's.
+-- Assumes nothing.
+use mathlib.Core.Path.{_≡_, refl, sym, ap, _∙_, subst, subst₂}
+use mathlib.Core.Bool.{Bool, true, false, cond}
+use mathlib.Core.List.{List, [], _∷_}
+use Prim.Native.Nat.{ℕ, _+_, _*_, _≤_}
+use native.Mathlib.Nat.{zero-add, mul-zero}
+use lib.Dec.{T, eqb, eqb→eq}
+use lib.IntN.{ℤ}
+use Rattle.rational.specs.Rounding.{Rounding}
+use Rattle.rational.proofs.Rational.{ℚ, rat, embed}
+use Rattle.bernstein.proofs.Rounded.{Side, Near, error}
+use Rattle.curve.specs.declared.Curve.{Curve}
+use Rattle.curve.specs.declared.Elevation.{Elevation}
+use Rattle.curve.specs.declared.Refusal.{Refusal}
+use Rattle.curve.specs.declared.Subdivision.{Subdivision}
+use Rattle.curve.specs.Rect.{Coordinate, side}
+use Rattle.curve.specs.Curve.{point, leftOf, rightOf, elevatedOf}
+use Rattle.curve.specs.Refusals.{Accepted}
+use Rattle.curve.proofs.Accepted.{parameter-facts}
+use Rattle.curve.proofs.Answers.{subdivided-accepted, elevated-accepted}
+use Rattle.curve.proofs.Pieces.{left-degree, right-degree, elevated-degree}
+use Rattle.card_text.specs.Reading.{readCard}
+use Rattle.card_text.proofs.Promises.{read-is-written, read-sum}
+use Rattle.ledger.specs.Ordinary.{Ordinary}
+use Rattle.ledger.specs.Ledger.{Ledger, Call, evaluate, evaluateSixteenths, subdivide, elevate, left, right, opened, refused, entered, after, refusalOf, answerOf, leaves}
+use Rattle.ledger.specs.Exact.{edge}
+use Rattle.ledger.proofs.Stretch.{Stretch}
+use Rattle.ledger.proofs.Steps.{left-stretch, right-stretch, elevated-stretch, left-exact, right-exact, raised-exact}
+use Rattle.ledger.proofs.Evaluation.{inward, inward-none, near-bounded, outward, outward-one, near-itself, near-claimed}
+use Rattle.ledger.proofs.Demand.{Kept, opened-kept, same-refusal, after-kept, subdivision-allowed, elevation-allowed}
+use Rattle.running_error.specs.Claim.{exactAnswer, exactlyLeaves, TrueSum, Along, SumIsTrue}
+
+-- every side of a curve lies within m roundings of the exact one, on either side of it
+record Tracked (now : Curve) (m : ℕ) (exact : Rounding → Ordinary) : Type 0 where
+  pub degrees : (r : Rounding) → exact r .degree ≡ now .degree
+  pub near :
+      (x : Coordinate) (r : Rounding) (way : Side) (k : ℕ) → k ≤ now .degree →
+      Near way (error way r * m) (side x r (point now k)) (rat (exact r .control x k))
+
+-- so it is at the start, with no rounding
+started : (c : Curve) → Tracked c 0 (λ r. edge r c)
+unfolding embed
+started c = record { degrees = λ r. refl; near = λ x r way k h. rw mul-zero (near-itself way (side x r (point c k))) }
+
+-- a stretch of the present curve that moves the exact control points as an exact step does
+followed :
+    (now next : Curve) (m : ℕ) (exact moved : Rounding → Ordinary) (start width : ℚ) (steps : ℕ) (stretch : Stretch start width steps now next) →
+    Tracked now m exact → ((r : Rounding) → moved r .degree ≡ next .degree) →
+    ((x : Coordinate) (r : Rounding) (k : ℕ) → k ≤ next .degree → rat (moved r .control x k) ≡ stretch .move (λ i. rat (exact r .control x i)) k) →
+    Tracked next (m + steps) moved
+followed now next m exact moved start width steps stretch t degrees same = record {
+  degrees = degrees;
+  near = λ x r way k h.
+      subst (λ (y : ℚ). Near way (error way r * (m + steps)) (side x r (point next k)) y) (sym (same x r k h))
+      (stretch .near x r way m (λ i. rat (exact r .control x i)) (t .near x r way) k h);
+}
+
+module _ (c : Curve) (l : Ledger) (now : Curve) (kept : Kept c l now) (exact : Rounding → Ordinary) (t : Tracked now (l .sum) exact) where
+  -- after an accepted call
+  entered-tracked : (call : Call) → refused l call .number ≡ 0 → Tracked (answerOf now call) (entered l call .sum) (λ r. exactAnswer (exact r) call)
+  entered-tracked (evaluate num den) h = t
+  entered-tracked (evaluateSixteenths j) h = t
+  entered-tracked (subdivide num den left) h =
+      let (at, room) = subdivision-allowed c l now kept num den h in
+      let f = parameter-facts num den at .factors in
+      subst₂ (λ (s : Subdivision) (n : ℕ). Tracked (s .left) (l .sum + n) (λ r. exactAnswer (exact r) (subdivide num den left)))
+      (sym (subdivided-accepted now num den (kept .accepted) at room)) (kept .degrees)
+      (followed now (leftOf now num den) (l .sum) exact _ _ _ _ (left-stretch now (kept .accepted) num den f) t (λ r. t .degrees r ∙ sym (left-degree now num den))
+      (λ x r k h. left-exact now (kept .accepted) (exact r) (t .degrees r) num den f x k))
+  entered-tracked (subdivide num den right) h =
+      let (at, room) = subdivision-allowed c l now kept num den h in
+      let f = parameter-facts num den at .factors in
+      subst₂ (λ (s : Subdivision) (n : ℕ). Tracked (s .right) (l .sum + n) (λ r. exactAnswer (exact r) (subdivide num den right)))
+      (sym (subdivided-accepted now num den (kept .accepted) at room)) (kept .degrees)
+      (followed now (rightOf now num den) (l .sum) exact _ _ _ _ (right-stretch now (kept .accepted) num den f) t (λ r. t .degrees r ∙ sym (right-degree now num den))
+      (λ x r k h. right-exact now (kept .accepted) (exact r) (t .degrees r) num den f x k))
+  entered-tracked elevate h =
+      let (few, room) = elevation-allowed c l now kept h in
+      subst (λ (e : Elevation). Tracked (e .curve) (l .sum + 1) (λ r. exactAnswer (exact r) elevate)) (sym (elevated-accepted now (kept .accepted) few room))
+      (followed now (elevatedOf now) (l .sum) exact _ _ _ _ (elevated-stretch now (kept .accepted) few) t (λ r. ap (λ (n : ℕ). n + 1) (t .degrees r) ∙ sym (elevated-degree now))
+      (λ x r k h. raised-exact now (kept .accepted) (exact r) (t .degrees r) few x k (subst (λ (n : ℕ). k ≤ n) (elevated-degree now) h)))
+
+  -- and after any call
+  after-tracked : (call : Call) → Tracked (leaves now call) (after l call .sum) (λ r. exactlyLeaves now (exact r) call)
+  unfolding after leaves exactlyLeaves
+  after-tracked call =
+      subst (λ (x : Refusal). Tracked (cond (eqb (x .number) 0) (answerOf now call) now) (after l call .sum) (λ r. cond (eqb (x .number) 0) (exactAnswer (exact r) call) (exact r)))
+      (sym (same-refusal c l now kept call)) (go (eqb (refused l call .number) 0) refl)
+    where
+      go :
+          (b : Bool) → eqb (refused l call .number) 0 ≡ b →
+          Tracked (cond b (answerOf now call) now) (cond b (entered l call) l .sum) (λ r. cond b (exactAnswer (exact r) call) (exact r))
+      go true e = entered-tracked call (eqb→eq (refused l call .number) 0 (subst T (sym e) tt))
+      go false e = t
+
+  -- what is claimed of a curve that the ledger was opened with no sum for
+  true-sum : l .brought ≡ 0 → TrueSum now exact l
+  true-sum zero =
+      let same : now .sum ≡ l .sum = kept .sums ∙ ap (λ (n : ℕ). n + l .sum) zero ∙ zero-add (l .sum) in
+      record {
+        degrees = t .degrees;
+        holds = λ x r k h. near-bounded r (exact r .control x k) (side x r (point now k))
+            (subst (λ (n : ℕ). Near (inward r) n (side x r (point now k)) (rat (exact r .control x k))) (inward-none r (l .sum)) (t .near x r (inward r) k h));
+        near = λ x r k h. near-claimed r (now .sum) (side x r (point now k)) (exact r .control x k)
+            (subst (λ (n : ℕ). Near (outward r) n (side x r (point now k)) (rat (exact r .control x k))) (outward-one r (l .sum) ∙ sym same) (t .near x r (outward r) k h));
+        kept = same;
+      }
+
+-- a ledger keeps what was brought
+entered-brought : (l : Ledger) (call : Call) → entered l call .brought ≡ l .brought
+entered-brought l (evaluate num den) = refl
+entered-brought l (evaluateSixteenths j) = refl
+entered-brought l (subdivide num den left) = refl
+entered-brought l (subdivide num den right) = refl
+entered-brought l elevate = refl
+
+after-brought : (l : Ledger) (call : Call) → after l call .brought ≡ l .brought
+unfolding after
+after-brought l call = go (eqb (refused l call .number) 0)
+  where
+    go : (b : Bool) → cond b (entered l call) l .brought ≡ l .brought
+    go true = entered-brought l call
+    go false = refl
+
+along :
+    (c : Curve) (calls : List Call) (l : Ledger) (now : Curve) (exact : Rounding → Ordinary) →
+    Kept c l now → Tracked now (l .sum) exact → l .brought ≡ 0 → Along now exact l calls
+along c [] l now exact kept t zero = true-sum c l now kept exact t zero
+along c (call ∷ calls) l now exact kept t zero = (
+  true-sum c l now kept exact t zero,
+  along c calls (after l call) (leaves now call) (λ r. exactlyLeaves now (exact r) call) (after-kept c l now kept call) (after-tracked c l now kept exact t call) (after-brought l call ∙ zero),
+)
+
+pub sum-is-true : SumIsTrue
+unfolding opened
+sum-is-true card h calls =
+    let c = readCard card .curve in
+    let ok : Accepted c = read-is-written card (ap (λ (r : Refusal). r .number) h) .accepted in
+    along c calls (opened c) c (λ r. edge r c) (opened-kept c ok) (started c) (read-sum card)
