@@ -171,7 +171,7 @@ pub fn subdivision_refusal(c: Curve, num: u32, den: u32) -> Refusal
     ensures { λ r. ⌜ r ≡ subdivisionRefusal c num den ⌝ }
 {
     let first = call_refusal(c, num, den);
-    let last = sum_refusal(piece_sum(c));
+    let last = sum_refusal(piece_sum(c.sum, c.degree));
     first_of(first, last)
 }
 
@@ -180,6 +180,6 @@ pub fn elevation_refusal(c: Curve) -> Refusal
     ensures { λ r. ⌜ r ≡ elevationRefusal c ⌝ }
 {
     let highest = refused_unless(c.degree < MAX_DEGREE, 6, 0);
-    let own = first_of(highest, sum_refusal(elevated_sum(c)));
+    let own = first_of(highest, sum_refusal(elevated_sum(c.sum)));
     first_of(curve_refusal(c), own)
 }

@@ -90,12 +90,12 @@ pub struct Rect {
     pub reactance: Interval,
 }
 
-// A curve of a degree n, whose control points are the rectangles 0 to n. Places past n are not read. The sum of steps tells how far a side may lie beyond that of the same
-// cuts and raisings without rounding, counted from the card that the curve was read from.
+// A curve of a degree n, whose control points are the rectangles 0 to n; places past n are not read. The sum of steps tells how far a side may lie beyond that of
+// the same cuts and raisings without rounding, from the card on. The points stand first, where they are copied fastest.
 pub struct Curve {
+    pub points: [Rect; PLACES],
     pub degree: u32,
     pub sum: u16,
-    pub points: [Rect; PLACES],
 }
 
 // A refusal's number and place. Number 0 says that the call was accepted.
@@ -157,7 +157,7 @@ pub fn subdivide(c: Curve, num: u32, den: u32) -> Subdivision
         };
     }
     let degree = c.degree;
-    let sum = piece_sum(c) as u16;
+    let sum = piece_sum(c.sum, degree) as u16;
     let n = degree as usize;
     let exact = table_of(&mut left, &mut right, n, num, den);
     Subdivision {
@@ -217,7 +217,7 @@ pub fn elevate(c: Curve) -> Elevation
     let raised = elevated_points(c);
     let points = raised.points;
     let degree = c.degree + 1;
-    let sum = elevated_sum(c) as u16;
+    let sum = elevated_sum(c.sum) as u16;
     Elevation {
         refusal,
         curve: Curve {

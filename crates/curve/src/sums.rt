@@ -1,8 +1,7 @@
 // The sum of steps that travels with a curve: what a call makes of it, and refusal 17.
 ghost use mathlib.Core.Path.{_≡_};
-ghost use Rattle.curve.specs.Curve.{pieceSum, elevatedSum};
+ghost use Prim.Native.Nat.{_+_};
 ghost use Rattle.curve.specs.Refusals.{sumRefusal};
-use crate::Curve;
 use crate::MAX_SUM;
 use crate::Refusal;
 use crate::checks::refused_unless;
@@ -14,16 +13,16 @@ pub fn sum_refusal(sum: u64) -> Refusal
     refused_unless(sum <= MAX_SUM, 17, 0)
 }
 
-// The sum of both pieces of a curve, whatever its degree.
-pub fn piece_sum(c: Curve) -> u64
-    ensures { λ r. ⌜ r ≡ pieceSum c ⌝ }
+// The sum of both pieces of a curve with this sum and degree, whatever the degree is.
+pub fn piece_sum(sum: u16, degree: u32) -> u64
+    ensures { λ r. ⌜ r ≡ sum + degree ⌝ }
 {
-    c.sum as u64 + c.degree as u64
+    sum as u64 + degree as u64
 }
 
 // The sum of the elevated curve.
-pub fn elevated_sum(c: Curve) -> u64
-    ensures { λ r. ⌜ r ≡ elevatedSum c ⌝ }
+pub fn elevated_sum(sum: u16) -> u64
+    ensures { λ r. ⌜ r ≡ sum + 1 ⌝ }
 {
-    c.sum as u64 + 1
+    sum as u64 + 1
 }

@@ -115,7 +115,7 @@ pub fn accepts_subdivision(sides: &mut [i32; SIDES], c: Curve, num: u32, den: u3
     requires { ⌜ Clear (now sides) ⌝ }
     ensures { λ r. ⌜ (r ≡ true → Accepted c × AcceptedAt num den × AcceptedSum (pieceSum c) × Taken c (now (sides .exit))) × (r ≡ false → eqb (subdivisionRefusal c num den .number) 0 ≡ false) ⌝ }
 {
-    accepts(sides, c, num, den) && sum_refusal(piece_sum(c)).number == 0
+    accepts(sides, c, num, den) && sum_refusal(piece_sum(c.sum, c.degree)).number == 0
 }
 
 // One stage in place: each of the first m rectangles becomes the map of itself and the next. It answers whether no map left a remainder.

@@ -50,11 +50,11 @@ fn store_rect(out: &mut [i32], at: usize, p: Rect)
     out[at + 3] = xhigh;
 }
 
-// A curve's sum of steps as a number of the same kind as a side.
-fn sum_number(c: Curve) -> i32
-    ensures { λ r. ⌜ r ≡ pos (c .sum) ⌝ }
+// A sum of steps as a number of the same kind as a side.
+fn sum_number(sum: u16) -> i32
+    ensures { λ r. ⌜ r ≡ pos sum ⌝ }
 {
-    c.sum as i32
+    sum as i32
 }
 
 // Stores a curve's degree, sum and sides.
@@ -71,7 +71,7 @@ fn store_curve(out: &mut [i32], c: Curve)
         k += 1;
     }
     out[0] = c.degree as i32;
-    out[1] = sum_number(c);
+    out[1] = sum_number(c.sum);
 }
 
 // Gives a rectangle, unless the call is refused.

@@ -3,7 +3,7 @@
 use mathlib.Core.Path.{_≡_, refl, sym, ap, _∙_, subst, subst₂}
 use mathlib.Core.Bool.{Bool, true, false, cond}
 use mathlib.Core.List.{List, [], _∷_}
-use Prim.Native.Nat.{ℕ, _+_, _*_, _≤_}
+use Prim.Native.Nat.{ℕ, _+_, _*_, _-_, _≤_}
 use native.Mathlib.Nat.{zero-add, mul-zero}
 use lib.Dec.{T, eqb, eqb→eq}
 use lib.IntN.{ℤ}
@@ -15,16 +15,17 @@ use Rattle.curve.specs.declared.Elevation.{Elevation}
 use Rattle.curve.specs.declared.Refusal.{Refusal}
 use Rattle.curve.specs.declared.Subdivision.{Subdivision}
 use Rattle.curve.specs.Rect.{Coordinate, side}
-use Rattle.curve.specs.Curve.{point, leftOf, rightOf, elevatedOf}
-use Rattle.curve.specs.Refusals.{Accepted}
+use Rattle.curve.specs.Curve.{point, leftOf, rightOf, tableExact, elevatedOf}
+use Rattle.curve.specs.Refusals.{none, Accepted}
+use Rattle.curve.specs.Inner.{Factors}
 use Rattle.curve.proofs.Accepted.{parameter-facts}
-use Rattle.curve.proofs.Answers.{subdivided-accepted, elevated-accepted}
+use Rattle.curve.proofs.Answers.{subdivision, subdivided-accepted, elevated-accepted}
 use Rattle.curve.proofs.Pieces.{left-degree, right-degree, elevated-degree}
 use Rattle.card_text.specs.Reading.{readCard}
 use Rattle.card_text.proofs.Promises.{read-is-written, read-sum}
 use Rattle.ledger.specs.Ordinary.{Ordinary}
-use Rattle.ledger.specs.Ledger.{Ledger, Call, evaluate, evaluateSixteenths, subdivide, elevate, left, right, opened, refused, entered, after, refusalOf, answerOf, leaves}
-use Rattle.ledger.specs.Exact.{edge}
+use Rattle.ledger.specs.Ledger.{Ledger, Piece, Call, evaluate, evaluateSixteenths, subdivide, elevate, left, right, kept as keeps, opened, parameter, subdividedSum, refused, entered, after, refusalOf, answerOf, leaves}
+use Rattle.ledger.specs.Exact.{edge, part}
 use Rattle.ledger.proofs.Stretch.{Stretch}
 use Rattle.ledger.proofs.Steps.{left-stretch, right-stretch, elevated-stretch, left-exact, right-exact, raised-exact}
 use Rattle.ledger.proofs.Evaluation.{inward, inward-none, near-bounded, outward, outward-one, near-itself, near-claimed}
@@ -56,25 +57,32 @@ followed now next m exact moved start width steps stretch t degrees same = recor
       (stretch .near x r way m (λ i. rat (exact r .control x i)) (t .near x r way) k h);
 }
 
+-- a cut adds the same whichever piece is kept
+entered-sum : (l : Ledger) (num den : ℕ) (piece : Piece) → entered l (subdivide num den piece) .sum ≡ subdividedSum l
+entered-sum l num den left = refl
+entered-sum l num den right = refl
+
 module _ (c : Curve) (l : Ledger) (now : Curve) (kept : Kept c l now) (exact : Rounding → Ordinary) (t : Tracked now (l .sum) exact) where
+  -- either piece of a cut
+  piece-tracked :
+      (num den : ℕ) → Factors (den - num) num den → (piece : Piece) →
+      Tracked (keeps piece (subdivision (leftOf now num den) (rightOf now num den) (tableExact now num den) none)) (l .sum + now .degree) (λ r. part piece (parameter num den) (exact r))
+  piece-tracked num den f left =
+      followed now (leftOf now num den) (l .sum) exact _ _ _ _ (left-stretch now (kept .accepted) num den f) t (λ r. t .degrees r ∙ sym (left-degree now num den))
+      (λ x r k h. left-exact now (kept .accepted) (exact r) (t .degrees r) num den f x k)
+  piece-tracked num den f right =
+      followed now (rightOf now num den) (l .sum) exact _ _ _ _ (right-stretch now (kept .accepted) num den f) t (λ r. t .degrees r ∙ sym (right-degree now num den))
+      (λ x r k h. right-exact now (kept .accepted) (exact r) (t .degrees r) num den f x k)
+
   -- after an accepted call
   entered-tracked : (call : Call) → refused l call .number ≡ 0 → Tracked (answerOf now call) (entered l call .sum) (λ r. exactAnswer (exact r) call)
   entered-tracked (evaluate num den) h = t
   entered-tracked (evaluateSixteenths j) h = t
-  entered-tracked (subdivide num den left) h =
+  entered-tracked (subdivide num den piece) h =
       let (at, room) = subdivision-allowed c l now kept num den h in
-      let f = parameter-facts num den at .factors in
-      subst₂ (λ (s : Subdivision) (n : ℕ). Tracked (s .left) (l .sum + n) (λ r. exactAnswer (exact r) (subdivide num den left)))
-      (sym (subdivided-accepted now num den (kept .accepted) at room)) (kept .degrees)
-      (followed now (leftOf now num den) (l .sum) exact _ _ _ _ (left-stretch now (kept .accepted) num den f) t (λ r. t .degrees r ∙ sym (left-degree now num den))
-      (λ x r k h. left-exact now (kept .accepted) (exact r) (t .degrees r) num den f x k))
-  entered-tracked (subdivide num den right) h =
-      let (at, room) = subdivision-allowed c l now kept num den h in
-      let f = parameter-facts num den at .factors in
-      subst₂ (λ (s : Subdivision) (n : ℕ). Tracked (s .right) (l .sum + n) (λ r. exactAnswer (exact r) (subdivide num den right)))
-      (sym (subdivided-accepted now num den (kept .accepted) at room)) (kept .degrees)
-      (followed now (rightOf now num den) (l .sum) exact _ _ _ _ (right-stretch now (kept .accepted) num den f) t (λ r. t .degrees r ∙ sym (right-degree now num den))
-      (λ x r k h. right-exact now (kept .accepted) (exact r) (t .degrees r) num den f x k))
+      subst₂ (λ (s : Subdivision) (n : ℕ). Tracked (keeps piece s) n (λ r. part piece (parameter num den) (exact r)))
+      (sym (subdivided-accepted now num den (kept .accepted) at room)) (ap (λ (n : ℕ). l .sum + n) (kept .degrees) ∙ sym (entered-sum l num den piece))
+      (piece-tracked num den (parameter-facts num den at .factors) piece)
   entered-tracked elevate h =
       let (few, room) = elevation-allowed c l now kept h in
       subst (λ (e : Elevation). Tracked (e .curve) (l .sum + 1) (λ r. exactAnswer (exact r) elevate)) (sym (elevated-accepted now (kept .accepted) few room))

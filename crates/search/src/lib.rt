@@ -1,8 +1,9 @@
 // The walk over a box: whether every load of a curve lies in the box, found by cutting the curve into pieces. The box is called `limits`; its low sides lie inside it, its high sides outside.
 // The call takes any record and any numbers, answers a refusal for bad input, and equals its definition in specs/Search.antt.
 ghost use mathlib.Core.Path.{_≡_};
+ghost use Prim.Native.Nat.{_+_, _*_};
 ghost use Rattle.curve.specs.Refusals.{sumRefusal};
-ghost use Rattle.search.specs.Search.{effortRefusal, boxRefusal, deepestSum, searchRefusal, searched};
+ghost use Rattle.search.specs.Search.{effortRefusal, boxRefusal, searchRefusal, searched};
 ghost use Rattle.search.specs.Walk.{walked};
 ghost use Rattle.search.specs.Inner.{Due};
 use curve::Curve;
@@ -55,10 +56,10 @@ pub struct SearchAnswer {
 }
 
 // Refusal 17: the deepest pieces' sum of steps, whatever degree and depth are.
-fn deepest_refusal(c: Curve, depth: u32) -> Refusal
-    ensures { λ r. ⌜ r ≡ sumRefusal (deepestSum c depth) ⌝ }
+fn deepest_refusal(sum: u16, degree: u32, depth: u32) -> Refusal
+    ensures { λ r. ⌜ r ≡ sumRefusal (sum + depth * degree) ⌝ }
 {
-    sum_refusal(c.sum as u64 + depth as u64 * c.degree as u64)
+    sum_refusal(sum as u64 + depth as u64 * degree as u64)
 }
 
 // Refusals 8, 9 and 17.
@@ -67,7 +68,10 @@ pub fn effort_refusal(c: Curve, depth: u32, budget: u32) -> Refusal
 {
     let first = refused_unless(depth <= MAX_DEPTH, 8, 0);
     let second = refused_unless(is_from_one_to(budget, MAX_BUDGET), 9, 0);
-    first_of(first, first_of(second, deepest_refusal(c, depth)))
+    first_of(
+        first,
+        first_of(second, deepest_refusal(c.sum, c.degree, depth)),
+    )
 }
 
 // Refusals 7 to 9 and 17.

@@ -16,8 +16,8 @@ product-most a b h k =
     let second = mul-le-mul-left 4294967295 small′ in
     omega arith
 
-product : (c : tie.After-struct-known2) → let a = c .before .before .args in a .depth * a .c .degree ≤ 18446744065119617025
-product c = let s = c .before .before in product-most (s .args .depth) (s .args .c .degree) (s .fits .depth .fits) (c .struct-known2 .given .0 .fits)
+product : (s : tie.Start) → s .args .depth * s .args .degree ≤ 18446744065119617025
+product s = product-most (s .args .depth) (s .args .degree) (s .fits .depth .fits) (s .fits .degree .fits)
 
 mul-sum-refusal : tie.Need-mul-sum-refusal
 mul-sum-refusal c = let most = product c in record { fits = omega arith }
@@ -25,17 +25,14 @@ mul-sum-refusal c = let most = product c in record { fits = omega arith }
 add-sum-refusal : tie.Need-add-sum-refusal
 add-sum-refusal c =
     let most = product c in
-    let (degree, rest) = c .struct-known2 .given in
-    let few = degree .fits in
-    let small = rest .0 .fits in
+    let few = c .fits .degree .fits in
+    let small = c .fits .sum .fits in
     record { fits = omega arith }
 
 pub deepest-refusal-spec : {M : Type 1} → statement M
 deepest-refusal-spec =
     tie.close
     (tie.spec
-    (λ c. search needs)
-    (λ c. search needs)
     mul-sum-refusal
     add-sum-refusal
     (λ c κs. search needs)

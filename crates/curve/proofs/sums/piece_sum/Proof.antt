@@ -9,4 +9,4 @@ returns : tie.Need-returns
 returns c = refl
 
 pub piece-sum-spec : {M : Type 1} → statement M
-piece-sum-spec = tie.close (tie.spec (λ c. search needs) (λ c. search needs) (λ c. search needs) returns)
+piece-sum-spec = tie.close (tie.spec (λ c. search needs) returns)

@@ -7,7 +7,7 @@ use Rattle.foreign.proofs.results.sum_number.Statement.{statement}
 use Rattle.foreign.proofs.results.sum_number.Tie as tie
 
 returns : tie.Need-returns
-returns c = let small = c .struct-known .given .1 .0 .fits in as-signed (c .before .args .c .sum) (omega arith)
+returns c = let small = c .fits .sum .fits in as-signed (c .args .sum) (omega arith)
 
 pub sum-number-spec : {M : Type 1} → statement M
 sum-number-spec = tie.close (tie.spec (λ c. search needs) returns)
