@@ -9,15 +9,13 @@ use lib.Dec.{leb, eqb}
 use lib.ListN.{length}
 use borrow.Author.Tests.{le-leb, eq-eqb}
 use Rattle.curve.specs.declared.Curve.{Curve}
-use Rattle.curve.specs.declared.Enclosure.{Enclosure}
 use Rattle.curve.specs.declared.Rect.{Rect}
 use Rattle.curve.specs.declared.Refusal.{Refusal}
 use Rattle.curve.specs.Limits.{maxDegree}
 use Rattle.curve.specs.Curve.{point, curveOf, SameButSum}
 use Rattle.curve.specs.Refusals.{none, unless, curveRefusal, degreeRefusal, Accepted}
 use Rattle.curve.proofs.Accepted.{accepted-ready}
-use Rattle.curve.proofs.Answers.{bounded-refusal}
-use Rattle.curve_promises.proofs.PastUnread.{past-unread}
+use Rattle.curve_promises.proofs.PastUnread.{refusals}
 use Rattle.curve.proofs.Places.{points-agree}
 use Rattle.curve.proofs.Points.{point-at}
 use Rattle.card_text.specs.Card.{header, rows, cardOf, headerLength, rowLength, cardLength, rowAt}
@@ -28,11 +26,6 @@ use Rattle.card_text.proofs.Fitting.{header-long, row-long, rows-long, 
 use Rattle.card_text.proofs.LinesRead.{header-read, row-read, each-row, rows-read}
 use Rattle.card_text.proofs.ReadingAnswer.{card-later, read-accepted}
 use Rattle.card_text.proofs.Stands.{Stands, stands-whole, stands-first, stands-second}
-
--- curves that are equal but for their sums have equal refusals
-pub same-refusal : (c e : Curve) → SameButSum c e → curveRefusal c ≡ curveRefusal e
-same-refusal c e same =
-    sym (bounded-refusal c) ∙ ap (λ (x : Enclosure). x .refusal) (past-unread .bounding c e same) ∙ bounded-refusal e
 
 -- a curve is equal to itself with zero past its degree, but for the sum
 pub same-trimmed : (c : Curve) → c .degree ≤ maxDegree → SameButSum c (curveOf (c .degree) 0 (point c))
@@ -98,7 +91,7 @@ module _ (c : Curve) (ok : Accepted c) where
       card-later card (ap (λ (r : Refusal). r .number) none-first)
       ∙ or-none (rowsRefusal card (decoded card .degree + 1)) (curveRefusal (decoded card))
       (ap (λ (m : ℕ). rowsRefusal card (m + 1)) degree ∙ rows-read card (n + 1) (λ k h. line k (omega arith) .0))
-      (ap curveRefusal curve ∙ sym (same-refusal c (curveOf n 0 (point c)) (same-trimmed c few)) ∙ ok)
+      (ap curveRefusal curve ∙ sym (refusals c (curveOf n 0 (point c)) (same-trimmed c few)) ∙ ok)
 
   pub card-reads : readCard (cardOf c) ≡ record { refusal = none; curve = curveOf (c .degree) 0 (point c) }
   card-reads =

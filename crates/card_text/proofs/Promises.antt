@@ -16,13 +16,14 @@ use Rattle.curve.specs.Refusals.{none, _orElse_, curveRefusal, Accepted, unless
 use Rattle.curve.proofs.Tests.{or-split}
 use Rattle.curve.proofs.Accepted.{accepted-facts, number-accepted}
 use Rattle.curve.proofs.Points.{point-past}
+use Rattle.curve_promises.proofs.PastUnread.{refusals}
 use Rattle.card_text.specs.declared.CardRead.{CardRead}
 use Rattle.card_text.specs.declared.CardWritten.{CardWritten}
 use Rattle.card_text.specs.Card.{header, rows, cardOf, cardLength, rowAt}
 use Rattle.card_text.specs.Reading.{numberAt, degreeOf, rectAt, decoded, headerRefusal, rowsRefusal, cardRefusal, readCard}
 use Rattle.card_text.specs.Writing.{writingRefusal, writeCard, bytesAfter}
 use Rattle.card_text.specs.Promises.{CardLength, WrittenReads, ReadIsWritten, PastUnwritten, ReadZeroPast, ReadSum}
-use Rattle.card_text.proofs.CardReads.{card-reads, same-refusal, same-trimmed}
+use Rattle.card_text.proofs.CardReads.{card-reads, same-trimmed}
 use Rattle.card_text.proofs.Fitting.{card-long}
 use Rattle.card_text.proofs.LinesStand.{rows-agree, card-stands}
 use Rattle.card_text.proofs.ReadingAnswer.{first-line, card-later, read-accepted}
@@ -128,7 +129,7 @@ module _ (c e : Curve) (same : SameButSum c e) where
   same-writing : (size : ℕ) → writingRefusal c size ≡ writingRefusal e size
   unfolding writingRefusal
   same-writing size =
-      ap₂ (λ (r : Refusal) (n : ℕ). r orElse unlessAt (leb (cardLength n) size) 12 (cardLength n)) (same-refusal c e same) (same .degrees)
+      ap₂ (λ (r : Refusal) (n : ℕ). r orElse unlessAt (leb (cardLength n) size) 12 (cardLength n)) (refusals c e same) (same .degrees)
 
 pub past-unwritten : PastUnwritten
 unfolding writeCard bytesAfter

@@ -43,6 +43,6 @@ PastUnwritten = (c e : Curve) (out : List ℕ) → SameButSum c e → (writeCard
 abbrev pub ReadZeroPast : Type 0
 ReadZeroPast = (bytes : List ℕ) (k : ℕ) → readCard bytes .curve .degree < k → point (readCard bytes .curve) k ≡ zeroRect
 
--- a card that is read begins with the sum 0, and so is the sum of a refused one
+-- the curve of a card has the sum 0, and so has the zero curve of a refused one
 abbrev pub ReadSum : Type 0
 ReadSum = (bytes : List ℕ) → readCard bytes .curve .sum ≡ 0

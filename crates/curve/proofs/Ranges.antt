@@ -40,9 +40,6 @@ zero-held = record { at = λ x. record { at = λ r. go x r } }
     go reactance down = record { from = leZ-yes tt; to = leZ-yes tt }
     go reactance up = record { from = leZ-yes tt; to = leZ-yes tt }
 
-pub zero-first : point zeroCurve 0 ≡ zeroRect
-zero-first = point-at 0 0 (λ k. zeroRect) 0 (omega arith) (omega arith)
-
 zero-ranged : Ranged zeroCurve
 zero-ranged =
     record {

@@ -1,4 +1,4 @@
--- The limits of document 01, named once.
+-- The limits of documents 01 and 02, named once.
 -- Assumes nothing.
 use Prim.Native.Nat.{ℕ}
 

@@ -55,7 +55,7 @@ parameterRefusal num den = unless (leb 1 den && leb den maxDen) 4 orElse unless 
 unfoldable pub highestRefusal : ℕ → Refusal
 highestRefusal degree = unless (ltb degree maxDegree) 6
 
--- 17: a sum of steps that would pass the largest
+-- 17: a sum of steps, which a call would reach, above the largest
 unfoldable pub sumRefusal : ℕ → Refusal
 sumRefusal sum = unless (leb sum maxSum) 17
 

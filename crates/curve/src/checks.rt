@@ -1,4 +1,4 @@
-// The checks of a curve and of a parameter: the first refusal that applies, in document 01's order.
+// The checks of a curve, of a parameter and of a call: the first refusal that applies, in the papers' order.
 ghost use mathlib.Core.Path.{_≡_};
 ghost use mathlib.Core.Bool.{_&&_};
 ghost use Prim.Native.Nat.{_≤_};

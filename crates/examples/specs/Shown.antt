@@ -27,7 +27,7 @@ use Rattle.curve.specs.Curve.{point, curveOf}
 abbrev pub valueAt : List ℤ → ℕ → Rect
 valueAt vs k = record { resistance = record { low = getD vs k (pos 0); high = getD vs k (pos 0) }; reactance = zeroInterval }
 
--- the curve of the given degree with these values, and the same with a sum of steps
+-- the curve of the given degree with a sum of steps and these values, and the same with the sum 0
 abbrev pub summedValues : ℕ → ℕ → List ℤ → Curve
 summedValues n sum vs = curveOf n sum (valueAt vs)
 

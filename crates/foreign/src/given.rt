@@ -113,7 +113,7 @@ fn whole_points(sides: &[i32], last: usize) -> [Rect; PLACES]
     points
 }
 
-// The same. The slice's length is tested once, so that four sides are copied at a time: faster where the
+// The curve of `curve_from`. The slice's length is tested once, so that four sides are copied at a time: faster where the
 // curve is stored before it is looked at, and slower where its sides are used at once.
 pub fn stored_curve_from(degree: u32, sum: u16, sides: &[i32]) -> Curve
     ensures { λ r. ⌜ r ≡ curveFrom degree sum (now (sides .entry)) ⌝ }

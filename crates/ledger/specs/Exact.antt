@@ -1,6 +1,6 @@
 -- Subdivision and degree elevation without rounding: exactly, on ordinary curves, whose control points are fractions.
 -- Assumes nothing.
-use Prim.Native.Nat.{ℕ, _+_, _-_}
+use Prim.Native.Nat.{_+_, _-_}
 use Rattle.rational.specs.Rounding.{Rounding}
 use Rattle.rational.specs.Fraction.{Frac, whole}
 use Rattle.bernstein.specs.Affine.{exactAffine}

@@ -51,7 +51,7 @@ leaves c call = cond (eqb (refusalOf c call .number) 0) (answerOf c call) c
 
 -- ---- the ledger
 
--- its own sum of steps starts at 0; the sum that the starting curve brought only tells when a call has no room for its sum
+-- its own sum of steps starts at 0; `brought` is the starting curve's sum, held to tell a 17 and for nothing else
 pub record Ledger : Type 0 where
   pub degree : ℕ
   pub start : Frac

@@ -6,7 +6,6 @@ use mathlib.Core.List.{List, [], _∷_}
 use Prim.Native.Nat.{ℕ, _+_, _*_, _-_, _≤_}
 use native.Mathlib.Nat.{zero-add, mul-zero}
 use lib.Dec.{T, eqb, eqb→eq}
-use lib.IntN.{ℤ}
 use Rattle.rational.specs.Rounding.{Rounding}
 use Rattle.rational.proofs.Rational.{ℚ, rat, embed}
 use Rattle.bernstein.proofs.Rounded.{Side, Near, error}
@@ -24,7 +23,7 @@ use Rattle.curve.proofs.Pieces.{left-degree, right-degree, elevated-degree}
 use Rattle.card_text.specs.Reading.{readCard}
 use Rattle.card_text.proofs.Promises.{read-is-written, read-sum}
 use Rattle.ledger.specs.Ordinary.{Ordinary}
-use Rattle.ledger.specs.Ledger.{Ledger, Piece, Call, evaluate, evaluateSixteenths, subdivide, elevate, left, right, kept as keeps, opened, parameter, subdividedSum, refused, entered, after, refusalOf, answerOf, leaves}
+use Rattle.ledger.specs.Ledger.{Ledger, Piece, Call, evaluate, evaluateSixteenths, subdivide, elevate, left, right, kept as keeps, opened, parameter, subdividedSum, refused, entered, after, answerOf, leaves}
 use Rattle.ledger.specs.Exact.{edge, part}
 use Rattle.ledger.proofs.Stretch.{Stretch}
 use Rattle.ledger.proofs.Steps.{left-stretch, right-stretch, elevated-stretch, left-exact, right-exact, raised-exact}
@@ -112,7 +111,8 @@ module _ (c : Curve) (l : Ledger) (now : Curve) (kept : Kept c l now) (exact : R
             (subst (λ (n : ℕ). Near (inward r) n (side x r (point now k)) (rat (exact r .control x k))) (inward-none r (l .sum)) (t .near x r (inward r) k h));
         near = λ x r k h. near-claimed r (now .sum) (side x r (point now k)) (exact r .control x k)
             (subst (λ (n : ℕ). Near (outward r) n (side x r (point now k)) (rat (exact r .control x k))) (outward-one r (l .sum) ∙ sym same) (t .near x r (outward r) k h));
-        kept = same;
+        sameSum = same;
+        sameDegree = kept .degrees;
       }
 
 -- a ledger keeps what was brought

@@ -31,12 +31,13 @@ exactlyLeaves now o call = cond (eqb (refusalOf now call .number) 0) (exactAnswe
 
 -- ---- the claim
 
--- a curve beside what its low sides and its high sides are without rounding: no side of any control point lies short of the exact one, none lies farther out by more than the record's sum, and that sum is the ledger's
+-- a curve beside what its low sides and its high sides are without rounding: no side of any control point lies short of the exact one, none lies farther out by more than the record's sum, and sum and degree are the ledger's
 pub record TrueSum (now : Curve) (exact : Rounding → Ordinary) (l : Ledger) : Type 0 where
   pub degrees : (r : Rounding) → exact r .degree ≡ now .degree
   pub holds : (x : Coordinate) (r : Rounding) (k : ℕ) → k ≤ now .degree → Bounded r (exact r .control x k) (side x r (point now k))
   pub near : (x : Coordinate) (r : Rounding) (k : ℕ) → k ≤ now .degree → Near r (now .sum) (side x r (point now k)) (exact r .control x k)
-  pub kept : now .sum ≡ l .sum
+  pub sameSum : now .sum ≡ l .sum
+  pub sameDegree : now .degree ≡ l .degree
 
 -- the claim along a list, of the curve at its start and of the one that each call leaves
 abbrev pub Along : Curve → (Rounding → Ordinary) → Ledger → List Call → Type 0

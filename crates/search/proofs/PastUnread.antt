@@ -9,10 +9,9 @@ use Rattle.curve.specs.declared.Curve.{Curve}
 use Rattle.curve.specs.declared.Refusal.{Refusal}
 use Rattle.curve.specs.declared.Enclosure.{Enclosure}
 use Rattle.curve.specs.declared.Subdivision.{Subdivision}
-use Rattle.curve.specs.Curve.{SameButSum, SameCurve}
-use Rattle.curve.specs.Refusals.{_orElse_, unless, curveRefusal, sumRefusal}
+use Rattle.curve.specs.Curve.{SameCurve}
+use Rattle.curve.specs.Refusals.{_orElse_, unless, sumRefusal}
 use Rattle.curve.specs.Calls.{bounded, subdivided}
-use Rattle.curve.proofs.Answers.{bounded-refusal}
 use Rattle.curve_promises.proofs.PastUnread as Curves
 use Rattle.search.specs.declared.Verdict.{Verdict}
 use Rattle.search.specs.declared.Verdict.the-variants.{Refused, Inside}
@@ -23,9 +22,6 @@ use Rattle.search.specs.Box.{isBox, inBox, apartFrom}
 use Rattle.search.specs.Walk.{goesOn, countOf, noted, stepBy, after, stepAt, walked}
 use Rattle.search.specs.Search.{effortRefusal, boxRefusal, searchRefusal, searched}
 use Rattle.search.specs.Promises.{PastUnread}
-
-pub same-curve-refusal : (c e : Curve) → SameButSum c e → curveRefusal c ≡ curveRefusal e
-same-curve-refusal c e same = sym (bounded-refusal c) ∙ ap (λ (x : Enclosure). x .refusal) (Curves.past-unread .bounding c e same) ∙ bounded-refusal e
 
 pub same-effort : (c e : Curve) → SameCurve c e → (depth budget : ℕ) → effortRefusal c depth budget ≡ effortRefusal e depth budget
 unfolding effortRefusal
@@ -58,5 +54,5 @@ pub past-unread : PastUnread
 unfolding searched searchRefusal boxRefusal
 past-unread c e box depth budget same =
     ap₂ answer
-    (ap₂ (λ (r x : Refusal). r orElse unless (isBox box) 7 orElse x) (same-curve-refusal c e (same .rest)) (same-effort c e same depth budget))
+    (ap₂ (λ (r x : Refusal). r orElse unless (isBox box) 7 orElse x) (Curves.refusals c e (same .rest)) (same-effort c e same depth budget))
     (walks c e box budget same depth 0 0 (Inside 0))

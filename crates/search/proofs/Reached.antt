@@ -5,7 +5,6 @@ use Prim.Native.Nat.{ℕ, zero, suc, _+_, _*_, _/_, _%_, _≤_, _<_}
 use native.Mathlib.Nat.{zero-mul, suc-mul, add-zero, add-assoc, mul-le-mul-right}
 use native.Mathlib.Omega.{arith}
 use Rattle.curve.specs.declared.Curve.{Curve}
-use Rattle.curve.specs.Limits.{maxSum}
 use Rattle.curve.specs.Curve.{pieceSum, leftOf, rightOf, tableExact}
 use Rattle.curve.specs.Calls.{subdivided}
 use Rattle.curve.specs.Refusals.{none, parameterRefusal, Accepted, AcceptedAt, AcceptedSum}
@@ -36,7 +35,7 @@ module _ (c : Curve) where
 
   module _ (limit : ℕ) (room : AcceptedSum (deepestSum c limit)) where
     -- a shallower depth has room too
-    pub room-at : (d : ℕ) → d ≤ limit → AcceptedSum (deepestSum c d)
+    room-at : (d : ℕ) → d ≤ limit → AcceptedSum (deepestSum c d)
     room-at d h =
         let most = accepted-most (deepestSum c limit) room in
         let less = mul-le-mul-right (c .degree) h in

@@ -12,7 +12,7 @@ use Rattle.curve.specs.declared.Enclosure.{Enclosure}
 use Rattle.curve.specs.declared.Refusal.{Refusal}
 use Rattle.curve.specs.Curve.{SameButSum, pieceSum, leftOf, rightOf, tableExact}
 use Rattle.curve.specs.Refusals.{none, _orElse_, unless, curveRefusal, Accepted, AcceptedSum}
-use Rattle.curve.specs.Calls.{bounded, subdivided}
+use Rattle.curve.specs.Calls.{subdivided}
 use Rattle.curve.proofs.Refused.{by-number}
 use Rattle.curve.proofs.Accepted.{accepted-most, most-accepted, accepted-subdivision}
 use Rattle.curve.proofs.Answers.{subdivision, subdivided-accepted, subdivided-refusal}
@@ -25,14 +25,14 @@ use Rattle.search.specs.Search.{deepestSum, effortRefusal, boxRefusal, s
 use Rattle.search.specs.Pieces.{halfOf, pieceAt}
 use Rattle.search.specs.Promises.{withSum, NoSumInside}
 use Rattle.search.proofs.Accepted.{Effort, Facts, answer, effort-none, number-facts, searched-accepted, searched-refused, searched-refusal}
-use Rattle.search.proofs.PastUnread.{same-curve-refusal, stepWith}
+use Rattle.search.proofs.PastUnread.{stepWith}
 use Rattle.search.proofs.Reached.{at-half, Reached, reached-whole, reached-half, cut-room, reached}
 
 -- ---- curves that are equal but for their sums
 
 module _ (c e : Curve) (same : SameButSum c e) (ok : Accepted c) where
-  pub other-accepted : Accepted e
-  other-accepted = sym (same-curve-refusal c e same) ∙ ok
+  other-accepted : Accepted e
+  other-accepted = sym (Curves.refusals c e same) ∙ ok
 
   -- halves of both, where both have room for a cut
   halves-same : AcceptedSum (pieceSum c) → AcceptedSum (pieceSum e) → (bit : ℕ) → SameButSum (halfOf bit (subdivided c 1 2)) (halfOf bit (subdivided e 1 2))
@@ -94,7 +94,7 @@ module _ (c : Curve) where
   room-unsummed limit room = let most = accepted-most (deepestSum c limit) room in most-accepted (deepestSum unsummed limit) (omega arith)
 
   pub same-curve-unsummed : curveRefusal c ≡ curveRefusal unsummed
-  same-curve-unsummed = same-curve-refusal c unsummed same-unsummed
+  same-curve-unsummed = Curves.refusals c unsummed same-unsummed
 
   -- where depth and budget are not refused and the deepest sum has room, both are refused alike
   module _ (depth budget : ℕ) (effort : Effort c depth budget) where

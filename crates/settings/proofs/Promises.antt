@@ -13,6 +13,7 @@ use Rattle.curve.specs.declared.Curve.{Curve}
 use Rattle.curve.specs.declared.Refusal.{Refusal}
 use Rattle.curve.specs.Refusals.{none, _orElse_}
 use Rattle.curve.proofs.Refused.{by-number}
+use Rattle.curve_promises.proofs.PastUnread as Curves
 use Rattle.search.specs.declared.SearchAnswer.{SearchAnswer}
 use Rattle.search.specs.Verdict.{inside}
 use Rattle.search.specs.Verdict as Verdict
@@ -107,7 +108,7 @@ pub past-unread : PastUnread
 unfolding chosen settingsRefusal fits endsInside
 past-unread c e ss depth budget same =
     ap₂ (λ (r : Refusal) (x : Choice). cond (eqb (r .number) 0) (answer x r) (answer Refused r))
-    (ap₂ (λ (r x : Refusal). listRefusal (length ss) orElse r orElse boxesRefusal 0 ss orElse x) (Walks.same-curve-refusal c e (same .rest)) (Walks.same-effort c e same depth budget))
+    (ap₂ (λ (r x : Refusal). listRefusal (length ss) orElse r orElse boxesRefusal 0 ss orElse x) (Curves.refusals c e (same .rest)) (Walks.same-effort c e same depth budget))
     (same-found _ _ (λ s. ap (λ (a : SearchAnswer). eqb (Verdict.reported (a .verdict) .number) inside) (Walks.past-unread c e (s .limits) depth budget same)) 0 ss)
 
 pub no-sum-inside : NoSumInside
