@@ -1,5 +1,6 @@
 //! The text of a run: cards and call lines off a stream, and where in the text they are.
 
+use std::fmt;
 use std::io::{self, BufRead, Read};
 use std::mem;
 
@@ -40,6 +41,15 @@ pub struct Malformed {
     pub line: u64,
     pub column: usize,
     pub what: String,
+}
+
+impl fmt::Display for Malformed {
+    fn fmt(&self, f: &mut fmt::Formatter) -> fmt::Result {
+        let Malformed {
+            line, column, what, ..
+        } = self;
+        write!(f, "line {line}, column {column}: {what}")
+    }
 }
 
 /// A text off a stream. A line is read up to the bytes that it should have, and never past its end, so

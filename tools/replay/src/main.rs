@@ -2,15 +2,7 @@
 //! The text's form is in README.md, "Replaying lists of calls".
 #![forbid(unsafe_code)]
 
-mod call;
-mod columns;
-mod input;
-mod line;
-mod natural;
 mod options;
-mod run;
-mod session;
-mod stretch;
 
 use std::env;
 use std::ffi::OsString;
@@ -19,7 +11,7 @@ use std::io::{self, BufReader, ErrorKind, Write};
 use std::process::ExitCode;
 
 use options::{Options, USAGE};
-use run::{run, Failure};
+use replay::run::{run, Failure};
 
 /// The exit statuses besides 0.
 const MALFORMED: u8 = 1;
@@ -57,13 +49,7 @@ fn run_file(name: &OsString, places: bool) -> Result<(), Failure> {
 fn status_of(ended: Result<(), Failure>, input: &str) -> ExitCode {
     match ended {
         Ok(()) => ExitCode::SUCCESS,
-        Err(Failure::Malformed(found)) => fail(
-            MALFORMED,
-            &format!(
-                "{input}, line {}, column {}: {}\n",
-                found.line, found.column, found.what
-            ),
-        ),
+        Err(Failure::Malformed(found)) => fail(MALFORMED, &format!("{input}, {found}\n")),
         Err(Failure::Unreadable(error)) => {
             fail(FAILED, &format!("{input} cannot be read: {error}\n"))
         }
