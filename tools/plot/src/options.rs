@@ -1,0 +1,95 @@
+//! What the program is asked to do on its command line.
+
+use std::ffi::OsString;
+
+pub const USAGE: &str = "usage: plot [--data] CARD [SETTINGS] > picture.svg
+
+Draws what the proved calls answer for a card, with gnuplot, as an SVG picture on standard output:
+resistance and reactance across the band, the same on a Smith chart at 50 ohms and, with a list of
+settings, its boxes and which setting is chosen.
+
+CARD is a file, or - for standard input. SETTINGS is a file with one call 8 as replay reads it: a line
+with the columns 8, depth, budget and count, then a line for each record with four box sides and a
+setting number.
+
+  --data  write what gnuplot is given, its data and its script, and draw nothing
+  --help  print this
+
+Exit status: 0 the picture is drawn, or nobody reads it any more; 1 the card or the list is refused or
+malformed, and nothing is drawn; 2 bad usage, gnuplot is missing or did not draw, or a file cannot be
+read or the output not be written.
+";
+
+#[derive(PartialEq, Debug)]
+pub enum Options {
+    Help,
+    Draw {
+        card: OsString,
+        settings: Option<OsString>,
+        data: bool,
+    },
+}
+
+impl Options {
+    /// The options in the program's arguments, or what is wrong with them.
+    pub fn of(arguments: impl Iterator<Item = OsString>) -> Result<Options, String> {
+        let (mut files, mut data) = (Vec::new(), false);
+        for argument in arguments {
+            match argument.to_str() {
+                Some("--help" | "-h") => return Ok(Options::Help),
+                Some("--data") => data = true,
+                Some(option) if option.starts_with('-') && option != "-" => {
+                    return Err(format!("there is no option {option}"));
+                }
+                _ => files.push(argument),
+            }
+        }
+        let mut files = files.into_iter();
+        let card = files.next().ok_or("no card is given")?;
+        let settings = files.next();
+        match files.next() {
+            Some(_) => Err("more than a card and a list of settings is given".to_string()),
+            None => Ok(Options::Draw {
+                card,
+                settings,
+                data,
+            }),
+        }
+    }
+}
+
+#[cfg(test)]
+mod tests {
+    use super::*;
+
+    fn options(arguments: &[&str]) -> Result<Options, String> {
+        Options::of(arguments.iter().map(OsString::from))
+    }
+
+    fn draw(card: &str, settings: Option<&str>, data: bool) -> Result<Options, String> {
+        Ok(Options::Draw {
+            card: card.into(),
+            settings: settings.map(OsString::from),
+            data,
+        })
+    }
+
+    #[test]
+    fn reads_the_arguments() {
+        assert_eq!(options(&["a"]), draw("a", None, false));
+        assert_eq!(options(&["-", "b"]), draw("-", Some("b"), false));
+        assert_eq!(options(&["a", "--data"]), draw("a", None, true));
+        assert_eq!(options(&["a", "--help"]), Ok(Options::Help));
+    }
+
+    #[test]
+    fn says_what_is_wrong() {
+        assert_eq!(options(&[]).unwrap_err(), "no card is given");
+        assert_eq!(
+            options(&["--png", "a"]).unwrap_err(),
+            "there is no option --png"
+        );
+        let more = options(&["a", "b", "c"]).unwrap_err();
+        assert_eq!(more, "more than a card and a list of settings is given");
+    }
+}
