@@ -9,6 +9,11 @@ make_plot() {
     require cargo && cd tools && cargo build --release --locked --package plot
 }
 
+# A closed stream would be taken for one that is thrown away.
+[ -e /dev/fd/1 ] || {
+    echo 'plot: standard output cannot be written: it is closed' >&2
+    exit 2
+}
 "$root/tools/library" || exit 2
 build_once plot "$program" 'tools include target/staticlib/libjusqani.a' make_plot || exit 2
 exec "$root/$program" "$@"

@@ -39,7 +39,7 @@ pub struct List {
     pub budget: u32,
 }
 
-/// What was chosen from a list, and the verdict on the first record that failed.
+/// What was chosen from a list, and what a search of the first box that fails ends with.
 pub struct Chosen {
     pub list: List,
     pub choice: Choice,
@@ -62,8 +62,8 @@ impl Chosen {
         })
     }
 
-    /// The stretch of the band on which the first record that failed was left, where its verdict names one.
-    pub fn left_at(&self) -> Option<Stretch> {
+    /// The stretch of the band that the verdict on the first box that fails names, if it names one.
+    pub fn stretch(&self) -> Option<Stretch> {
         match self.failed? {
             Verdict::Outside { depth, index, .. } | Verdict::Undecided { depth, index, .. } => {
                 Some(Stretch { depth, index })

@@ -5,7 +5,7 @@ use jusqani::{Choice, Rect, Setting};
 use crate::answers::{Answers, Chosen, Stretch, FIRST};
 use crate::frame::{frame, Names};
 use crate::text::{row, Text};
-use crate::words;
+use crate::words::{self, Unshown};
 
 /// What became of a record of a list, as the data numbers it.
 #[derive(Clone, Copy, PartialEq, Eq, PartialOrd, Ord)]
@@ -39,15 +39,19 @@ pub fn list(text: &mut Text, answers: &Answers, chosen: &Chosen) {
     text.number("frame_top", around.top);
     let readings = answers.staged.iter().map(|reading| reading.load);
     let places = Names::new(around, readings, &limits);
-    let unseen = places.unseen();
-    let named = names(text, chosen, places);
-    let lines = words::answer(chosen, unseen, settings.len() - unseen - named);
-    text.words("answer", &lines);
+    let (around, beyond) = places.around_and_beyond();
+    let unnamed = settings.len() - around - beyond - names(text, chosen, places);
+    let unshown = Unshown {
+        around,
+        beyond,
+        unnamed,
+    };
+    text.words("answer", &words::answer(chosen, unshown));
 }
 
-/// The stretch of the band where the first record that fails was left, if there is a list and its verdict names one.
-pub fn left_at(text: &mut Text, chosen: Option<&Chosen>) {
-    let stretch = chosen.and_then(Chosen::left_at);
+/// The stretch of the band that the verdict on the first box that fails names, if there is a list and it names one.
+pub fn stretch(text: &mut Text, chosen: Option<&Chosen>) {
+    let stretch = chosen.and_then(Chosen::stretch);
     text.number("stretches", u8::from(stretch.is_some()));
     if let Some(Stretch { depth, index }) = stretch {
         text.number("depth", depth);
@@ -55,19 +59,20 @@ pub fn left_at(text: &mut Text, chosen: Option<&Chosen>) {
     }
 }
 
-/// The names of the boxes as far as there is room, the chosen one's first, and how many there are.
+/// The names of the boxes as far as there is room, and how many there are. That of the chosen one and that of the first
+/// that fails come first, and may stand on a reading.
 fn names(text: &mut Text, chosen: &Chosen, mut places: Names) -> usize {
     let settings = &chosen.list.settings;
     let mut order: Vec<usize> = (0..settings.len()).collect();
     order.sort_by_key(|index| fate(chosen, *index));
     let name = |index: usize| {
-        let number = settings[index].number;
-        let name = match fate(chosen, index) {
+        let (number, fate) = (settings[index].number, fate(chosen, index));
+        let name = match fate {
             Fate::Chosen => format!("{index}: {number} chosen"),
             Fate::FailedFirst => format!("{index}: {number} fails"),
             Fate::Other => format!("{index}: {number}"),
         };
-        let (resistance, reactance) = places.place(index, name.len())?;
+        let (resistance, reactance) = places.place(index, name.len(), fate != Fate::Other)?;
         Some(format!("{resistance:.1} {reactance:.1} \"{name}\""))
     };
     let rows: Vec<String> = order.into_iter().filter_map(name).collect();

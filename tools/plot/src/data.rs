@@ -18,7 +18,7 @@ pub fn text(name: &str, answers: &Answers, chosen: Option<&Chosen>) -> String {
     text.words("title", &[title, words::guarantee(answers.steps())]);
     curve(&mut text, answers);
     regions::all(&mut text, answers);
-    boxes::left_at(&mut text, chosen);
+    boxes::stretch(&mut text, chosen);
     text.number("settings", u8::from(chosen.is_some()));
     if let Some(chosen) = chosen {
         boxes::list(&mut text, answers, chosen);

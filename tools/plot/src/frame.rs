@@ -43,6 +43,17 @@ impl Area {
         across && self.bottom < other.top && other.bottom < self.top
     }
 
+    fn met_by(&self, others: &[Area]) -> usize {
+        others.iter().filter(|other| self.meets(other)).count()
+    }
+
+    /// Whether some of the way from one point to another lies in it.
+    pub fn is_crossed(&self, from: (f64, f64), to: (f64, f64)) -> bool {
+        let across = inside(from.0, to.0, self.left, self.right);
+        let up = inside(from.1, to.1, self.bottom, self.top);
+        across.0.max(up.0) <= across.1.min(up.1)
+    }
+
     fn grown(&self, by: f64) -> Area {
         Area {
             left: self.left - by,
@@ -98,6 +109,20 @@ impl Area {
     }
 }
 
+/// The part of the way between two numbers, from 0 to 1, that lies between two others: where it begins, and where it
+/// ends, which is before that if there is none.
+fn inside(from: f64, to: f64, low: f64, high: f64) -> (f64, f64) {
+    if from == to {
+        return if low <= from && from <= high {
+            (0.0, 1.0)
+        } else {
+            (1.0, 0.0)
+        };
+    }
+    let (one, other) = ((low - from) / (to - from), (high - from) / (to - from));
+    (one.min(other).max(0.0), one.max(other).min(1.0))
+}
+
 /// The sides of one coordinate that hold the span and, as far as they are not too far away, the boxes.
 fn sides(span: Interval, boxes: impl Iterator<Item = Interval>) -> (f64, f64) {
     let (low, high) = (f64::from(span.low), f64::from(span.high));
@@ -127,9 +152,10 @@ pub fn frame(span: Rect, boxes: &[Rect]) -> Area {
     }
 }
 
-/// The names of boxes in a frame. None stands on another or on a reading.
+/// The names of boxes in a frame. None stands on another.
 pub struct Names {
     frame: Area,
+    readings: Vec<Area>,
     boxes: Vec<Area>,
     taken: Vec<Area>,
 }
@@ -138,47 +164,50 @@ impl Names {
     pub fn new(frame: Area, readings: impl Iterator<Item = Rect>, boxes: &[Rect]) -> Names {
         let parts = |rect: Rect| Area::from(rect).part_of(&frame);
         Names {
+            readings: readings.map(parts).collect(),
             boxes: boxes.iter().map(|limits| parts(*limits)).collect(),
-            taken: readings.map(parts).collect(),
+            taken: Vec::new(),
             frame,
         }
     }
 
-    /// How many boxes have nothing in the frame.
-    pub fn unseen(&self) -> usize {
-        self.boxes.iter().filter(|area| !area.meets(&WHOLE)).count()
+    /// How many boxes lie around the whole frame, and how many out of it.
+    pub fn around_and_beyond(&self) -> (usize, usize) {
+        let around = self.boxes.iter().filter(|area| area.holds(&WHOLE));
+        let beyond = self.boxes.iter().filter(|area| !area.meets(&WHOLE));
+        (around.count(), beyond.count())
     }
 
-    /// Where a box's name of so many characters begins, and its middle height, in steps. None where nothing of the
-    /// box is in the frame, or there is no room.
-    pub fn place(&mut self, index: usize, characters: usize) -> Option<(f64, f64)> {
+    /// Where a box's name of so many characters begins, and its middle height, in steps. None where no line of the
+    /// box is in the frame, or there is no room beside readings, or on them if it may stand there.
+    pub fn place(&mut self, index: usize, characters: usize, anywhere: bool) -> Option<(f64, f64)> {
         let area = self.boxes[index];
-        if !area.meets(&WHOLE) {
+        if area.holds(&WHOLE) || !area.meets(&WHOLE) {
             return None;
         }
         let spots = spots(area, CHARACTER * (characters as f64 + 1.0)).into_iter();
-        let free = spots
-            .filter(|spot| WHOLE.holds(spot) && !self.taken.iter().any(|other| other.meets(spot)));
+        let free = spots.filter(|spot| WHOLE.holds(spot) && spot.met_by(&self.taken) == 0);
+        let free = free.filter(|spot| anywhere || spot.met_by(&self.readings) == 0);
         let spot = free.min_by_key(|spot| self.crowding(index, spot))?;
         self.taken.push(spot);
         let up = (spot.bottom + spot.top) / 2.0;
         Some(self.frame.point(spot.left + CHARACTER / 2.0, up))
     }
 
-    /// How many lines go through a spot, and how many of other boxes pass it closely: the fewer, the better is seen
-    /// whose name stands there.
-    fn crowding(&self, index: usize, spot: &Area) -> (usize, usize) {
-        let lines =
-            |area: &Area, spot: &Area| area.lines().iter().filter(|line| line.meets(spot)).count();
+    /// How many readings are on a spot, how many lines go through it, and how many of other boxes pass it closely: the
+    /// fewer, the better is seen what is there, and whose name it is.
+    fn crowding(&self, index: usize, spot: &Area) -> (usize, usize, usize) {
         let near = spot.grown(LINE);
-        let others = self
+        let lines = |area: &Area, spot: &Area| spot.met_by(&area.lines());
+        let all = self
             .boxes
             .iter()
-            .enumerate()
-            .filter(|(other, _)| *other != index);
+            .map(|area| lines(area, &near))
+            .sum::<usize>();
         (
+            spot.met_by(&self.readings),
             self.boxes.iter().map(|area| lines(area, spot)).sum(),
-            others.map(|(_, area)| lines(area, &near)).sum(),
+            all - lines(&self.boxes[index], &near),
         )
     }
 }
@@ -248,15 +277,16 @@ mod tests {
 
     #[test]
     fn puts_no_name_on_another() {
-        let limits = [rect([0, 40_000, -20_000, 10_000]); 64];
+        let limits = [rect([-2_000, 32_000, -20_000, 10_000]); 64];
         let around = frame(rect(SPAN), &limits);
         let mut names = Names::new(around, [rect(SPAN)].into_iter(), &limits);
-        let placed = (0..64).filter(|k| names.place(*k, 5).is_some()).count();
+        let placed = (0..64)
+            .filter(|k| names.place(*k, 5, false).is_some())
+            .count();
         assert!((20..64).contains(&placed), "{placed}");
-        assert_eq!(names.taken.len(), 1 + placed);
-        for (k, area) in names.taken.iter().enumerate().skip(1) {
-            assert!(WHOLE.holds(area));
-            assert!(!names.taken[..k].iter().any(|other| other.meets(area)));
+        assert_eq!(names.taken.len(), placed);
+        for (k, area) in names.taken.iter().enumerate() {
+            assert!(WHOLE.holds(area) && area.met_by(&names.taken[..k]) == 0);
         }
     }
 
@@ -269,17 +299,50 @@ mod tests {
         ];
         let around = frame(rect(SPAN), &limits);
         let mut names = Names::new(around, [].into_iter(), &limits);
-        let (_, up) = names.place(1, 4).unwrap();
+        let (_, up) = names.place(1, 4, false).unwrap();
         assert!(-15_000.0 < up && up < -12_000.0, "{up}");
     }
 
+    /// A box within a reading has its name on it, and one that is larger beside it.
     #[test]
-    fn names_no_box_that_is_out_of_the_frame() {
+    fn puts_a_name_on_a_reading_where_it_must() {
+        let limits = [
+            rect([14_000, 16_000, -6_000, -4_000]),
+            rect([10_000, 24_000, -10_000, 4_000]),
+        ];
+        let around = frame(rect(SPAN), &limits);
+        let mut names = Names::new(around, [rect(SPAN)].into_iter(), &limits);
+        assert_eq!(names.place(0, 4, false), None);
+        let (across, up) = names.place(0, 4, true).unwrap();
+        assert!((10_000.0..20_000.0).contains(&across) && (-10_000.0..0.0).contains(&up));
+        let (_, up) = names.place(1, 4, false).unwrap();
+        assert!(0.0 < up && up < 4_000.0, "{up}");
+    }
+
+    #[test]
+    fn names_no_box_without_a_line_in_the_frame() {
         let far = rect([1_000_000, 1_000_001, 0, 1]);
+        let wide = rect([-16_777_216, 16_777_216, -16_777_216, 16_777_216]);
         let around = frame(rect(SPAN), &[]);
-        let mut names = Names::new(around, [].into_iter(), &[far, rect(SPAN)]);
-        assert_eq!(names.unseen(), 1);
-        assert_eq!(names.place(0, 4), None);
-        assert!(names.place(1, 4).is_some());
+        let mut names = Names::new(around, [].into_iter(), &[far, wide, rect(SPAN)]);
+        assert_eq!(names.around_and_beyond(), (1, 1));
+        assert_eq!(
+            (names.place(0, 4, true), names.place(1, 4, true)),
+            (None, None)
+        );
+        assert!(names.place(2, 4, false).is_some());
+    }
+
+    #[test]
+    fn knows_which_way_crosses_an_area() {
+        let crosses = |from, to| WHOLE.is_crossed(from, to);
+        assert!(crosses((0.5, 0.5), (0.5, 0.5)));
+        assert!(crosses((-9.0, 0.5), (9.0, 0.5)));
+        assert!(crosses((0.5, 9.0), (0.5, -9.0)));
+        assert!(crosses((-1.0, 1.5), (1.5, -1.0)));
+        assert!(!crosses((-1.0, 1.5), (1.0, 1.5)));
+        assert!(!crosses((-1.0, 1.5), (0.4, 1.6)));
+        assert!(!crosses((-0.5, 0.4), (0.4, -0.5)));
+        assert!(!crosses((2.0, 0.5), (3.0, 0.5)));
     }
 }

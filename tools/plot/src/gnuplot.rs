@@ -8,6 +8,8 @@ use std::thread;
 pub fn picture(text: &str) -> Result<String, String> {
     let mut command = Command::new("gnuplot");
     command.args(["--default-settings", "-"]);
+    // Elsewhere it warns that it cannot write the words.
+    command.env("LC_ALL", "C.UTF-8");
     command.stdin(Stdio::piped()).stdout(Stdio::piped());
     let mut gnuplot = command.spawn().map_err(not_run)?;
     let mut input = gnuplot.stdin.take().expect("its input is a pipe");
@@ -23,7 +25,11 @@ pub fn picture(text: &str) -> Result<String, String> {
             drawn.status
         ));
     }
-    String::from_utf8(drawn.stdout).map_err(|_| "gnuplot drew no text".to_string())
+    let picture = String::from_utf8(drawn.stdout).unwrap_or_default();
+    if !picture.trim_end().ends_with("</svg>") {
+        return Err("gnuplot drew no whole picture".to_string());
+    }
+    Ok(picture)
 }
 
 fn not_run(error: io::Error) -> String {
@@ -36,7 +42,7 @@ fn not_run(error: io::Error) -> String {
 }
 
 /// A picture with a title of its own. gnuplot's titles are what it was told to draw, which a browser would show over
-/// each part.
+/// each part. Words with what ends a CDATA section, which gnuplot leaves as it is, are put as XML wants them.
 pub fn titled(picture: &str, title: &str) -> String {
     let title = title.replace('&', "&amp;").replace('<', "&lt;");
     let mut titles = [format!("<title>{title}</title>")].into_iter();
@@ -47,7 +53,7 @@ pub fn titled(picture: &str, title: &str) -> String {
         titled += &titles.next().unwrap_or_default();
         rest = behind.split_once("</title>").map_or("", |(_, rest)| rest);
     }
-    titled + rest
+    (titled + rest).replace("]]>", "]]&gt;")
 }
 
 #[cfg(test)]
@@ -56,8 +62,8 @@ mod tests {
 
     #[test]
     fn has_one_title() {
-        let drawn = "<svg>\n<title>Gnuplot</title>\n<g ><title>$a using 1:2</title>\n<p/></g><g><title>b</title></g>\n</svg>";
-        let expected = "<svg>\n<title>x &lt; y &amp; z</title>\n<g >\n<p/></g><g></g>\n</svg>";
+        let drawn = "<svg><text>]]></text>\n<title>Gnuplot</title>\n<g ><title>$a using 1:2</title>\n<p/></g><g><title>b</title></g>\n</svg>";
+        let expected = "<svg><text>]]&gt;</text>\n<title>x &lt; y &amp; z</title>\n<g >\n<p/></g><g></g>\n</svg>";
         assert_eq!(titled(drawn, "x < y & z"), expected);
         assert_eq!(titled("<svg/>", "a"), "<svg/>");
     }

@@ -37,10 +37,14 @@ pub fn read(source: impl BufRead) -> Result<List, Fault> {
     else {
         return Err(Fault::Malformed(format!("line 1, column 1: {FIRST_LINE}")));
     };
-    if !matches!(input.request(), Ok(None)) {
-        let behind = settings.len() + 2;
-        let what = format!("line {behind}, column 1: the list's last record is before this line, and more stands here");
-        return Err(Fault::Malformed(what));
+    match input.request() {
+        Ok(None) => (),
+        Err(Stop::Unreadable(error)) => return Err(Fault::Unreadable(error)),
+        _ => {
+            let behind = settings.len() + 2;
+            let what = "the list's last record is before this line, and more stands here";
+            return Err(Fault::Malformed(format!("line {behind}, column 1: {what}")));
+        }
     }
     Ok(List {
         settings,

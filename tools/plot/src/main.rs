@@ -84,7 +84,8 @@ fn draw(card: &OsStr, settings: Option<&OsStr>, data: bool) -> Result<(), Failur
     let in_card = |refusal| refused(format!("{shown}: {refusal}"));
     let answers = Answers::of(curve).map_err(in_card)?;
     let chosen = list.map(|(list, name)| {
-        Chosen::of(&curve, list).map_err(|refusal| refused(format!("{name}: {refusal}")))
+        let in_list = |refusal| refused(format!("{name}: {}", words::refused_list(refusal)));
+        Chosen::of(&curve, list).map_err(in_list)
     });
     let text = data::text(&name, &answers, chosen.transpose()?.as_ref());
     if data {

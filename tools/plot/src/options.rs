@@ -10,7 +10,7 @@ settings, its boxes and which setting is chosen.
 
 CARD is a file, or - for standard input. SETTINGS is a file with one call 8 as replay reads it: a line
 with the columns 8, depth, budget and count, then a line for each record with four box sides and a
-setting number.
+setting number. Files whose names begin with - are given behind --.
 
   --data  write what gnuplot is given, its data and its script, and draw nothing
   --help  print this
@@ -33,9 +33,11 @@ pub enum Options {
 impl Options {
     /// The options in the program's arguments, or what is wrong with them.
     pub fn of(arguments: impl Iterator<Item = OsString>) -> Result<Options, String> {
-        let (mut files, mut data) = (Vec::new(), false);
+        let (mut files, mut data, mut only_files) = (Vec::new(), false, false);
         for argument in arguments {
             match argument.to_str() {
+                _ if only_files => files.push(argument),
+                Some("--") => only_files = true,
                 Some("--help" | "-h") => return Ok(Options::Help),
                 Some("--data") => data = true,
                 Some(option) if option.starts_with('-') && option != "-" => {
@@ -79,6 +81,7 @@ mod tests {
         assert_eq!(options(&["a"]), draw("a", None, false));
         assert_eq!(options(&["-", "b"]), draw("-", Some("b"), false));
         assert_eq!(options(&["a", "--data"]), draw("a", None, true));
+        assert_eq!(options(&["--", "--x", "-"]), draw("--x", Some("-"), false));
         assert_eq!(options(&["a", "--help"]), Ok(Options::Help));
     }
 

@@ -12,6 +12,7 @@ set format '%.10g'
 set samples 80
 unset key
 set clip two
+set style textbox opaque noborder fillcolor 'white' margins 0.5,0.2
 
 # What differs in colour differs in form or in lightness too.
 grey = '#a8a8a8'
@@ -41,7 +42,7 @@ panel = 'set lmargin at screen left/1./width; set rmargin at screen right/1./wid
 # 1. Resistance and reactance across the band: the columns of their low and high sides, and the span's sides.
 place(k) = 16. * k / degree
 margin(low, high) = ohm(high > low ? 0.08 * (high - low) : 1)
-left = 90; right = 520
+left = 100; right = 520
 set xrange [-0.9:16.9]
 set xtics 0,1,16 format ''
 array tops = [102, 298]
@@ -63,15 +64,15 @@ do for [k = 1:2] {
       with boxxyerror fillstyle solid linestyle 4
 }
 
-# Below them which readings are lit, and the stretch where the first box that fails was left.
+# Below them which readings are lit, and the stretch on which the search of the first box that fails ended.
 rows = 2 + stretches
 top = 492; bottom = top + 19*rows
 @panel
 set yrange [rows:0]
 set ytics ('staged' 0.5, 'summed' 1.5) scale 0
 if (stretches) {
-  set ytics add ('box 0 left' 2.5)
-  set object 1 rectangle from 16.*index/2**depth,2.2 to 16.*(index + 1)/2**depth,2.8 \
+  set ytics add ('box 0 fails' 2.5)
+  set object 1 rectangle from 16.*index/2**depth,2.2 to 16.*(index + 1)/2**depth,2.8 linewidth 3 \
     fillcolor rgb brown fillstyle solid border linecolor rgb brown
 }
 set xtics 0,1,16 format '%.0f' offset 0,0.3
@@ -82,32 +83,33 @@ plot \
     with points pointtype 7 pointsize variable linecolor 'black'
 unset object
 
-# 3. The boxes of the list, and the readings.
+# 3. The boxes of the list, and the readings. A box is drawn by its four edges, each from one column of the resistance and
+# one of the reactance to another, so that what is out of the frame is left out. Style 6 is for the chosen box, 7 for the
+# first that fails and 5 for the others.
+from_r = '2 3 3 2'; to_r = '3 3 2 2'
+from_x = '4 4 5 5'; to_x = '4 5 5 4'
+from(columns, edge) = ohm(column(int(word(columns, edge))))
+style(fate) = fate == 3 ? 5 : fate + 5
+edges = '$boxes using ($7 == fate ? from(from_r, edge) : NaN):(from(from_x, edge)): \
+  (from(to_r, edge) - from(from_r, edge)):(from(to_x, edge) - from(from_x, edge)) \
+  with vectors nohead linestyle style(fate)'
 if (settings) {
-  left = 90; right = 560; top = 690; bottom = 990
+  left = 100; right = 560; top = 690; bottom = 990
   @panel
   set xtics autofreq format '%.10g' scale 0.5
   set ytics autofreq format '%.10g' scale 0.5
   set xrange [ohm(frame_left):ohm(frame_right)]
   set yrange [ohm(frame_bottom):ohm(frame_top)]
-  # A box's four edges, each from one column of the resistance and one of the reactance to another; the part that is
-  # out of the frame is not drawn. Style 6 is for the chosen box, 7 for the first that fails and 5 for the others.
-  from_r = '2 3 3 2'; to_r = '3 3 2 2'
-  from_x = '4 4 5 5'; to_x = '4 5 5 4'
-  from(columns, edge) = ohm(column(int(word(columns, edge))))
-  style(fate) = fate == 3 ? 5 : fate + 5
   do for [k = 1:names] {
     row = $names[k + 1]
     set label k word(row, 3) at ohm(real(word(row, 1))),ohm(real(word(row, 2))) font ',11' front
   }
   plot \
-    for [fate in '3 1 2'] for [edge = 1:4] $boxes using \
-      ($7 == fate ? from(from_r, edge) : NaN):(from(from_x, edge)): \
-      (from(to_r, edge) - from(from_r, edge)):(from(to_x, edge) - from(from_x, edge)) \
-      with vectors nohead linestyle style(fate), \
+    for [fate = 3:3] for [edge = 1:4] @edges, \
     $summed using (ohm($2)):(ohm($4)):(ohm($2)):(ohm($3)):(ohm($4)):(ohm($5)) with boxxyerror fillstyle solid linestyle 4, \
     $staged using (ohm($2)):(ohm($4)):(ohm($2)):(ohm($3)):(ohm($4)):(ohm($5)) \
-      with boxxyerror fillstyle empty linestyle 3 linewidth 0.8
+      with boxxyerror fillstyle empty linestyle 3 linewidth 0.8, \
+    for [fate = 1:2] for [edge = 1:4] @edges
   unset label
 }
 
@@ -121,8 +123,7 @@ set yrange [-window:window]
 reflection(r, x) = (r + {0,1} * x - 50) / (r + {0,1} * x + 50)
 far(t) = 50 * tan(t * pi / 2 * 0.9999)
 grid = '10 25 50 100 250'
-swr = '1.5 2 3'
-radius(s) = (s - 1.) / (s + 1)
+radius(ratio) = (ratio - 1.) / (ratio + 1)
 do for [k = 1:words(grid)] {
   ohms = word(grid, k)
   r = real(ohms)
@@ -131,8 +132,9 @@ do for [k = 1:words(grid)] {
   set label 20 + k ohms at real(rim),imag(rim) center font ',10' textcolor rgb pale front
   set label 30 + k '−'.ohms at real(rim),-imag(rim) center font ',10' textcolor rgb pale front
 }
-do for [k = 1:words(swr)] {
-  set label 40 + k 'SWR '.word(swr, k) at 0,side*(radius(word(swr, k)) + 0.05) center font ',10' front
+do for [k = 2:|$ratios|] {
+  row = $ratios[k]
+  set label 40 + k 'SWR '.word(row, 1) at real(word(row, 2)),real(word(row, 3)) center boxed font ',10' front
 }
 do for [k = 1:ends] {
   row = $ends[k + 1]
@@ -141,22 +143,20 @@ do for [k = 1:ends] {
 set parametric
 set trange [0:1]
 plot \
+  for [r in grid] (r + 50*cos(2*pi*t))/(r + 50),50*sin(2*pi*t)/(r + 50) with lines linestyle 8, \
+  for [x in grid] real(reflection(far(t), real(x))),imag(reflection(far(t), real(x))) with lines linestyle 8, \
+  for [x in grid] real(reflection(far(t), real(x))),-imag(reflection(far(t), real(x))) with lines linestyle 8, \
+  2*t - 1,0 with lines linestyle 8, \
   for [k = 0:regions - 1] $summed_regions index k using 1:2 \
     with filledcurves closed fillstyle solid noborder fillcolor rgb blue, \
-  for [r in grid] (r + 50*cos(2*pi*t))/(r + 50),50*sin(2*pi*t)/(r + 50) \
-    with lines linestyle 8, \
-  for [x in grid] real(reflection(far(t), real(x))),imag(reflection(far(t), real(x))) \
-    with lines linestyle 8, \
-  for [x in grid] real(reflection(far(t), real(x))),-imag(reflection(far(t), real(x))) \
-    with lines linestyle 8, \
-  2*t - 1,0 with lines linestyle 8, \
   cos(2*pi*t),sin(2*pi*t) with lines linecolor '#606060' linewidth 1.2, \
-  for [s in swr] radius(s)*cos(2*pi*t),radius(s)*sin(2*pi*t) with lines linestyle 9, \
+  for [k = 2:|$ratios|] radius(word($ratios[k], 1))*cos(2*pi*t),radius(word($ratios[k], 1))*sin(2*pi*t) \
+    with lines linestyle 9, \
   $control_outlines using 1:2 with lines linestyle 1, \
   $span_outline using 1:2 with lines linestyle 2, \
   $summed_outlines using 1:2 with lines linestyle 4, \
   $staged_outlines using 1:2 with lines linestyle 3 linewidth 0.7, \
-  $lit using 1:2:($3 == 1 ? 7 : 6) with points pointtype variable pointsize 0.35 linecolor 'black'
+  $lit using 1:2 with points pointtype 7 pointsize 0.35 linecolor 'black'
 unset parametric
 unset label
 
@@ -168,13 +168,14 @@ set yrange [height:0]
 set label 1 words_of($title[1]) at width/2,24 center font ',19'
 set label 2 words_of($title[2]) at width/2,50 center font ',14'
 set label 3 '1. The load across the band' at 24,84 font ',15'
-set label 4 'resistance, ohm' at 24,196 center rotate
-set label 5 'reactance, ohm' at 24,392 center rotate
-set label 6 'lit' at 24,511 center rotate
-set label 7 'place in the band, in sixteenths' at 305,525 + 19*rows center
+set label 4 'resistance, ohm' at 14,196 center rotate
+set label 5 'reactance, ohm' at 14,392 center rotate
+set label 6 'lit' at 14,511 center rotate
+set label 7 'place in the band, in sixteenths' at 310,525 + 19*rows center
 set label 8 '2. The same on a Smith chart at 50 ohm' at 560,84 font ',15'
 set label 9 'circles of resistance and arcs of reactance, in ohm' at 780,534 center font ',10' textcolor rgb pale
 set label 10 words_of($beyond[1]) at 780,554 center font ',11'
+set label 16 words_of($beyond[2]) at 780,572 center font ',11'
 set label 11 'control rectangle' at 60,616 font ',12'
 set label 12 'span' at 220,616 font ',12'
 set label 13 'staged reading, rounded at each stage' at 306,616 font ',12'
@@ -182,15 +183,15 @@ set label 14 'summed reading, rounded once' at 598,616 font ',12'
 set label 15 'lit: nothing was rounded' at 834,616 font ',12'
 if (settings) {
   set label 20 '3. The boxes of the settings' at 24,672 font ',15'
-  set label 21 'resistance, ohm' at 325,1026 center
-  set label 22 'reactance, ohm' at 24,840 center rotate
+  set label 21 'resistance, ohm' at 330,1026 center
+  set label 22 'reactance, ohm' at 14,840 center rotate
   answer = ''
   do for [k = 1:|$answer|] { answer = answer.words_of($answer[k])."\n" }
   set label 23 answer at 590,704
-  set label 24 'a box of the list, with its index and setting number;' at 630,916
-  set label 25 'its high sides are the first values not allowed' at 630,934
-  set label 26 'the chosen one' at 630,958
-  set label 27 'the first that fails' at 630,982
+  set label 24 'a box of the list, with its index and setting number;' at 630,930
+  set label 25 'its high sides are the first values not allowed' at 630,948
+  set label 26 'the chosen one' at 630,972
+  set label 27 'the first that fails' at 630,996
 }
 plot \
   $one using (38):(616):(24):(52):(608):(624) \
@@ -199,7 +200,7 @@ plot \
   $one using (284):(616):(270):(298):(608):(624) with boxxyerror fillstyle empty linestyle 3, \
   $one using (576):(616):(562):(590):(608):(624) with boxxyerror fillstyle solid linestyle 4, \
   $one using (820):(616) with points pointtype 7 pointsize 0.9 linecolor 'black', \
-  for [k = 1:settings] $one using (606):(916):(592):(620):(908):(924) with boxxyerror fillstyle empty linestyle 5, \
-  for [k = 1:settings] $one using (606):(958):(592):(620):(950):(966) with boxxyerror fillstyle empty linestyle 6, \
-  for [k = 1:settings] $one using (606):(982):(592):(620):(974):(990) with boxxyerror fillstyle empty linestyle 7
+  for [k = 1:settings] $one using (606):(930):(592):(620):(922):(938) with boxxyerror fillstyle empty linestyle 5, \
+  for [k = 1:settings] $one using (606):(972):(592):(620):(964):(980) with boxxyerror fillstyle empty linestyle 6, \
+  for [k = 1:settings] $one using (606):(996):(592):(620):(988):(1004) with boxxyerror fillstyle empty linestyle 7
 unset multiplot

@@ -2,15 +2,16 @@
 
 use jusqani::{Choice, Refusal, Verdict};
 
-use crate::answers::{Chosen, Stretch, FIRST};
+use crate::answers::{Chosen, FIRST};
 
 /// The most characters of a card's name in the title, and of a line of the answer.
-const NAME_WIDTH: usize = 60;
+const NAME_WIDTH: usize = 40;
 const LINE_WIDTH: usize = 52;
 
 /// The first line of the title. What cannot be shown of a name, or has no room, is not.
 pub fn title(name: &str, degree: u32) -> String {
-    let shown = |c: char| if c.is_control() { '?' } else { c };
+    let hidden = |c: char| c.is_control() || ('\u{fffe}'..='\u{ffff}').contains(&c);
+    let shown = |c: char| if hidden(c) { '?' } else { c };
     let mut name: String = name.chars().map(shown).collect();
     if name.chars().count() > NAME_WIDTH {
         name = name.chars().take(NAME_WIDTH).chain(['…']).collect();
@@ -24,13 +25,31 @@ pub fn guarantee(steps: u32) -> String {
     format!("every load lies inside; no side more than {steps} {unit} ({steps}/1,024 ohm) beyond the exact one")
 }
 
-/// The answer to a list of settings, in lines. So many boxes are out of the frame, and so many in it have no name.
-pub fn answer(chosen: &Chosen, unseen: usize, unnamed: usize) -> Vec<String> {
+/// The boxes that the third panel does not show in full: how many lie around its whole frame, how many out of it, and
+/// how many in it have no name.
+#[derive(Clone, Copy, PartialEq, Debug, Default)]
+pub struct Unshown {
+    pub around: usize,
+    pub beyond: usize,
+    pub unnamed: usize,
+}
+
+/// The answer to a list of settings, in lines.
+pub fn answer(chosen: &Chosen, unshown: Unshown) -> Vec<String> {
     let mut sentences = vec![choice(chosen)];
     sentences.extend(chosen.failed.map(|verdict| failure(chosen, verdict)));
-    let note = |count, what| (count > 0).then(|| format!("{what}: {count} of the boxes."));
-    sentences.extend(note(unseen, "Beyond the frame"));
-    sentences.extend(note(unnamed, "Without a name, for want of room"));
+    let notes = [
+        (unshown.around, "around the whole frame"),
+        (unshown.beyond, "beyond the frame"),
+        (unshown.unnamed, "without a name, for want of room"),
+    ];
+    let notes = notes.into_iter().filter(|(count, _)| *count > 0);
+    let notes: Vec<String> = notes
+        .map(|(count, what)| format!("{count} {what}"))
+        .collect();
+    if !notes.is_empty() {
+        sentences.push(format!("Of the boxes {}.", notes.join(", ")));
+    }
     let paragraphs: Vec<Vec<String>> = sentences.iter().map(|text| wrapped(text)).collect();
     paragraphs.join(&String::new())
 }
@@ -51,36 +70,45 @@ fn choice(chosen: &Chosen) -> String {
     }
 }
 
+/// What `search` answers about the first box that fails.
 fn failure(chosen: &Chosen, verdict: Verdict) -> String {
     let number = chosen.list.settings[FIRST].number;
     let end = match verdict {
-        Verdict::Inside { .. } => unreachable!("record {FIRST} failed, and its walk ended Inside"),
-        Verdict::Outside { .. } => "no load lies in its box there".to_string(),
-        Verdict::Undecided { .. } => {
-            "that is the depth limit, and it is undecided there".to_string()
+        Verdict::Inside { .. } => {
+            unreachable!("record {FIRST} failed, and its search ended Inside")
+        }
+        Verdict::Outside { depth, index, .. } => {
+            let stretch = stretch(depth, index);
+            format!("Outside at depth {depth}, index {index}: {stretch} no load lies in it")
+        }
+        Verdict::Undecided { depth, index, .. } => {
+            let stretch = stretch(depth, index);
+            format!("Undecided at depth {depth}, index {index}: {stretch}, at the depth limit, it is not known whether all loads lie in it")
         }
         Verdict::Spent { count } => {
             let pieces = counted(count as usize, "piece");
-            format!("the budget was spent after {pieces}, before all was decided")
+            format!("Spent: after {pieces} not all was decided")
         }
     };
-    let stretch = chosen.left_at().map(|Stretch { depth, index }| {
-        let (pieces, next) = (1 << depth, index + 1);
-        format!("left at depth {depth}, index {index}, the stretch from {index}/{pieces} to {next}/{pieces} of the band; ")
-    });
-    let stretch = stretch.unwrap_or_default();
-    format!("Record {FIRST}, setting {number}, fails first: {stretch}{end}.")
+    format!("Record {FIRST}, setting {number}, fails first. A search of its box ends {end}.")
 }
 
-/// What is said of readings that the Smith chart does not show, whose resistance is far below zero.
-pub fn beyond(unseen: usize) -> String {
-    match unseen {
+fn stretch(depth: u32, index: u32) -> String {
+    let (pieces, next) = (1 << depth, index + 1);
+    format!("on the stretch from {index}/{pieces} to {next}/{pieces} of the band")
+}
+
+/// What is said of readings that the Smith chart does not show, whose resistance is far below zero, and of those
+/// whose region is not what their outline encloses.
+pub fn beyond(unseen: usize, open: usize) -> Vec<String> {
+    let note = |count, what: &str| match count {
         0 => String::new(),
-        _ => format!(
-            "{} beyond this part of the plane",
-            counted(unseen, "reading")
-        ),
-    }
+        _ => format!("{} {what}", counted(count, "reading")),
+    };
+    vec![
+        note(unseen, "beyond this part of the plane"),
+        note(open, "with −50 ohm, filling all outside of the outline"),
+    ]
 }
 
 /// A count with its word.
@@ -114,6 +142,7 @@ const LINE: u32 = 41;
 pub fn refused_card(refusal: Refusal, cut_off: bool) -> String {
     let place = refusal.place;
     let spot = match refusal.number {
+        1 => ", in line 1".to_string(),
         2 | 3 => format!(
             " (counted from 0), line {} of the card (counted from 1)",
             place + 2
@@ -134,6 +163,17 @@ pub fn refused_card(refusal: Refusal, cut_off: bool) -> String {
         _ => String::new(),
     };
     format!("{refusal}{spot}")
+}
+
+/// A list's refusal, and where in its text that is.
+pub fn refused_list(refusal: Refusal) -> String {
+    match refusal.number {
+        7 => {
+            let line = refusal.place + 2;
+            format!("{refusal} (counted from 0), line {line} of the list (counted from 1)")
+        }
+        _ => refusal.to_string(),
+    }
 }
 
 #[cfg(test)]
@@ -160,15 +200,15 @@ mod tests {
             choice,
             failed,
         };
-        answer(&chosen, 0, 0).join(" ")
+        answer(&chosen, Unshown::default()).join(" ")
     }
 
     #[test]
     fn says_what_the_title_has() {
         assert_eq!(title("dipole", 3), "dipole, degree 3");
-        assert_eq!(title("a\nb\u{7f}", 8), "a?b?, degree 8");
+        assert_eq!(title("a\nb\u{7f}c\u{ffff}", 8), "a?b?c?, degree 8");
         let long = title(&"é".repeat(99), 1);
-        assert_eq!(long, format!("{}…, degree 1", "é".repeat(60)));
+        assert_eq!(long, format!("{}…, degree 1", "é".repeat(40)));
         assert_eq!(
             guarantee(8),
             "every load lies inside; no side more than 8 steps (8/1,024 ohm) beyond the exact one"
@@ -190,7 +230,7 @@ mod tests {
             index: 3,
             count: 9,
         };
-        let left = "Record 0, setting 3, fails first: left at depth 2, index 3, the stretch from 3/4 to 4/4 of the band; no load lies in its box there.";
+        let left = "Record 0, setting 3, fails first. A search of its box ends Outside at depth 2, index 3: on the stretch from 3/4 to 4/4 of the band no load lies in it.";
         assert_eq!(
             said(Choice::NoneFits, Some(outside)),
             format!("{none}  {left}")
@@ -205,14 +245,11 @@ mod tests {
             count: 70,
         };
         let left = said(Choice::NoneFits, Some(undecided));
-        assert!(left.ends_with("left at depth 6, index 52, the stretch from 52/64 to 53/64 of the band; that is the depth limit, and it is undecided there."), "{left}");
+        let words = "ends Undecided at depth 6, index 52: on the stretch from 52/64 to 53/64 of the band, at the depth limit, it is not known whether all loads lie in it.";
+        assert!(left.ends_with(words), "{left}");
         let spent = said(Choice::NoneFits, Some(Verdict::Spent { count: 1 }));
-        assert!(
-            spent.ends_with(
-                "Record 0, setting 3, fails first: the budget was spent after 1 piece, before all was decided."
-            ),
-            "{spent}"
-        );
+        let words = "A search of its box ends Spent: after 1 piece not all was decided.";
+        assert!(spent.ends_with(words), "{spent}");
     }
 
     #[test]
@@ -226,7 +263,7 @@ mod tests {
     #[test]
     fn says_where_a_card_is_refused() {
         let words = |number, place| refused_card(Refusal { number, place }, false);
-        assert!(words(1, 0).ends_with("1 to 8"));
+        assert!(words(1, 0).ends_with("1 to 8, in line 1"));
         assert!(words(3, 1)
             .ends_with(", in rectangle 1 (counted from 0), line 3 of the card (counted from 1)"));
         assert!(words(11, 10)

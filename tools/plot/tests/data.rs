@@ -77,18 +77,15 @@ fn load([real, imaginary]: [f64; 2]) -> [f64; 2] {
 /// An outline has the rectangle's four corners, ends where it begins, and has no point that is not on an edge.
 fn expect_outline(rect: &[i64], outline: &[[f64; 2]]) {
     let [r_low, r_high, x_low, x_high] = [0, 1, 2, 3].map(|k| rect[k] as f64 / 1024.0);
-    let near = |a: f64, b: f64| (a - b).abs() < 1e-3 + 1e-6 * b.abs();
-    for [r, x] in [
-        [r_low, x_low],
-        [r_high, x_low],
-        [r_high, x_high],
-        [r_low, x_high],
-    ] {
+    let has = |r: f64, x: f64| {
         let [real, imaginary] = reflection(r, x);
-        let is_corner = |point: &[f64; 2]| (point[0] - real).hypot(point[1] - imaginary) < 2e-9;
-        assert!(outline.iter().any(is_corner), "{rect:?}: {r} {x}");
-    }
+        let mut points = outline.iter();
+        points.any(|point| (point[0] - real).hypot(point[1] - imaginary) < 2e-9)
+    };
+    assert!(has(r_low, x_low) && has(r_low, x_high), "{rect:?}");
+    assert!(has(r_high, x_low) && has(r_high, x_high), "{rect:?}");
     assert_eq!(outline.first(), outline.last());
+    let near = |a: f64, b: f64| (a - b).abs() < 1e-3 + 1e-6 * b.abs();
     for point in outline {
         let [r, x] = load(*point);
         let across = (near(x, x_low) || near(x, x_high)) && r_low - 1e-3 < r && r < r_high + 1e-3;
@@ -97,52 +94,47 @@ fn expect_outline(rect: &[i64], outline: &[[f64; 2]]) {
     }
 }
 
+/// A block has the outlines of these rectangles, in their order.
+fn expect_outlines(data: &Data, block: &str, rects: &[Vec<i64>]) {
+    let outlines = data.outlines(block);
+    assert_eq!(outlines.len(), rects.len(), "{block}");
+    for (rect, outline) in rects.iter().zip(&outlines) {
+        expect_outline(rect, outline);
+    }
+}
+
 #[test]
 fn has_the_regions_of_the_same_rectangles() {
     for card in examples("", "card") {
         let (curve, data) = (curve_of(&card), Data::of(&[&card]));
-        let rects = |block: &str| {
-            data.rows(block)
-                .into_iter()
-                .map(|row| row[1..5].to_vec())
-                .collect()
+        let rects = |block: &str| -> Vec<Vec<i64>> {
+            let rows = data.rows(block).into_iter();
+            rows.map(|row| row[1..5].to_vec()).collect()
         };
-        let span = vec![sides(curve.bounds().unwrap())];
-        let blocks: [(&str, Vec<Vec<i64>>); 5] = [
-            ("control_outlines", rects("control")),
-            ("span_outline", span),
-            ("staged_outlines", rects("staged")),
-            ("summed_outlines", rects("summed")),
-            ("summed_regions", rects("summed")),
-        ];
+        expect_outlines(&data, "control_outlines", &rects("control"));
+        expect_outlines(&data, "span_outline", &[sides(curve.bounds().unwrap())]);
+        expect_outlines(&data, "staged_outlines", &rects("staged"));
+        expect_outlines(&data, "summed_outlines", &rects("summed"));
+        expect_outlines(&data, "summed_regions", &rects("summed"));
         assert_eq!(data.numbers["regions"], 17);
-        for (block, rects) in blocks {
-            let outlines = data.outlines(block);
-            assert_eq!(outlines.len(), rects.len(), "{block}");
-            for (rect, outline) in rects.iter().zip(&outlines) {
-                expect_outline(rect, outline);
-            }
-        }
     }
 }
 
-/// The readings that are lit are marked in their middles.
+/// The middle of a row's load, as its reflection.
+fn middle(row: &[i64]) -> String {
+    let middle = |k: usize| (row[k] + row[k + 1]) as f64 / 2048.0;
+    let [real, imaginary] = reflection(middle(1), middle(3));
+    format!("{real:.9} {imaginary:.9}")
+}
+
+/// The summed readings that are lit are marked in their middles. The ends always are.
 #[test]
 fn has_the_lit_readings_on_the_chart() {
     for card in examples("", "card") {
         let data = Data::of(&[&card]);
-        let (staged, summed) = (data.rows("staged"), data.rows("summed"));
-        let lit = staged
-            .iter()
-            .zip(&summed)
-            .filter(|(_, summed)| summed[5] == 1);
-        let expected: Vec<String> = lit
-            .map(|(staged, summed)| {
-                let middle = |k: usize| (summed[k] + summed[k + 1]) as f64 / 2048.0;
-                let [real, imaginary] = reflection(middle(1), middle(3));
-                format!("{real:.9} {imaginary:.9} {}", staged[5])
-            })
-            .collect();
+        let summed = data.rows("summed");
+        let lit = summed.iter().filter(|row| row[5] == 1);
+        let expected: Vec<String> = lit.map(|row| middle(row)).collect();
         assert_eq!(data.blocks["lit"], expected);
         assert!(expected.len() >= 2);
     }
@@ -150,14 +142,14 @@ fn has_the_lit_readings_on_the_chart() {
 
 /// The text of a list.
 fn list(depth: u32, budget: u32, settings: &[Setting]) -> String {
-    let mut text = format!("{:>10}{depth:>10}{budget:>10}{:>10}\n", 8, settings.len());
-    for Setting { limits, number } in settings {
-        for side in sides(*limits) {
-            text += &format!("{side:>10}");
-        }
-        text += &format!("{number:>10}\n");
-    }
-    text
+    let column = |number: i64| format!("{number:>10}");
+    let record = |setting: &Setting| {
+        let sides = sides(setting.limits).into_iter().map(column);
+        sides.collect::<String>() + &column(setting.number.into()) + "\n"
+    };
+    let numbers = [8, depth.into(), budget.into(), settings.len() as i64];
+    let records: String = settings.iter().map(record).collect();
+    numbers.map(column).concat() + "\n" + &records
 }
 
 fn settings(boxes: &[[i32; 4]]) -> Vec<Setting> {
@@ -217,50 +209,68 @@ fn has_the_first_record_where_it_fits() {
 fn has_the_stretch_where_the_first_box_was_left() {
     let fits =
         "Setting 41 fits, record 1 of 2 (counted from 0): every load of the band lies in its box.";
-    let left = "Record 0, setting 40, fails first: left at depth 0, index 0, the stretch from 0/1 to 1/1 of the band; no load lies in its box there.";
+    let left = "Record 0, setting 40, fails first. A search of its box ends Outside at depth 0, index 0: on the stretch from 0/1 to 1/1 of the band no load lies in it.";
     expect_list("outside", 6, 500, &settings(&[AWAY, HOLDS]), &[fits, left]);
     let none =
         "None fits: of 1 record no walk ended Inside, at depth 3 and with 500 pieces for each.";
-    let left = "Record 0, setting 40, fails first: left at depth 3, index 7, the stretch from 7/8 to 8/8 of the band; that is the depth limit, and it is undecided there.";
+    let left = "Record 0, setting 40, fails first. A search of its box ends Undecided at depth 3, index 7: on the stretch from 7/8 to 8/8 of the band, at the depth limit, it is not known whether all loads lie in it.";
     expect_list("undecided", 3, 500, &settings(&[TOUCHED]), &[none, left]);
 }
 
 #[test]
 fn has_no_stretch_where_the_budget_was_spent() {
     let none = "None fits: of 1 record no walk ended Inside, at depth 6 and with 1 piece for each.";
-    let spent = "Record 0, setting 40, fails first: the budget was spent after 1 piece, before all was decided.";
+    let spent = "Record 0, setting 40, fails first. A search of its box ends Spent: after 1 piece not all was decided.";
     expect_list("spent", 6, 1, &settings(&[TOUCHED]), &[none, spent]);
 }
 
 #[test]
-fn counts_the_boxes_that_are_not_seen() {
+fn counts_the_boxes_that_are_not_shown() {
     let fits =
-        "Setting 40 fits, record 0 of 2 (counted from 0): every load of the band lies in its box.";
-    let far = [16_000_000, 16_000_001, 0, 1];
-    let beyond = "Beyond the frame: 1 of the boxes.";
-    expect_list("far", 6, 500, &settings(&[HOLDS, far]), &[fits, beyond]);
-    let many: Vec<[i32; 4]> = vec![HOLDS; 64];
-    let text = list(6, 500, &settings(&many));
+        "Setting 40 fits, record 0 of 3 (counted from 0): every load of the band lies in its box.";
+    let beyond = [16_000_000, 16_000_001, 0, 1];
+    let around = [-16_777_216, 16_777_216, -16_777_216, 16_777_216];
+    let unshown = "Of the boxes 1 around the whole frame, 1 beyond the frame.";
+    let boxes = settings(&[HOLDS, beyond, around]);
+    expect_list("unshown", 6, 500, &boxes, &[fits, unshown]);
+}
+
+#[test]
+fn counts_the_boxes_without_a_name() {
+    let text = list(6, 500, &settings(&[HOLDS; 64]));
     let data = Data::of(&[&example("dipole.card"), &written("many", &text)]);
     let named = data.numbers["names"];
     assert_eq!(named as usize, data.blocks["names"].len());
     assert!(0 < named && named < 64);
     let unnamed = format!(
-        "Without a name, for want of room: {} of the boxes.",
+        "Of the boxes {} without a name, for want of room.",
         64 - named
     );
     assert!(data.words("answer").join(" ").ends_with(&unnamed));
 }
 
-/// Where −50 ohms lies in every reading nothing can be filled, and none is seen on the chart.
+/// A card of degree 1 with these sides at both ends.
+fn constant(name: &str, sides: [i32; 4]) -> Data {
+    let row = sides.map(|side| format!("{side:>10}")).concat();
+    let card = format!("{:>10}\n{row}\n{row}\n", 1);
+    Data::of(&[&written(name, &card)])
+}
+
+/// A region with −50 ohms in it is not filled, and what is not drawn has no name.
 #[test]
 fn says_which_readings_the_chart_does_not_show() {
-    let row = format!("{:>10}{:>10}{:>10}{:>10}\n", -51_200, -51_200, 0, 0);
-    let card = format!("{:>10}\n{row}{row}", 1);
-    let data = Data::of(&[&written("pole.card", &card)]);
-    assert_eq!((data.numbers["regions"], data.numbers["ends"]), (0, 0));
-    assert_eq!(
-        data.words("beyond"),
-        ["17 readings beyond this part of the plane"]
+    let pole = constant("pole.card", [-51_200, -51_200, 0, 0]);
+    assert_eq!((pole.numbers["regions"], pole.numbers["ends"]), (0, 0));
+    let beyond = "17 readings beyond this part of the plane";
+    let open = "17 readings with −50 ohm, filling all outside of the outline";
+    assert_eq!(pole.words("beyond"), [beyond, open]);
+    let all = constant(
+        "all.card",
+        [-16_777_216, 16_777_216, -16_777_216, 16_777_216],
     );
+    assert_eq!((all.numbers["regions"], all.numbers["ends"]), (0, 1));
+    assert_eq!(all.words("beyond"), ["", open]);
+    let far = constant("far.card", [-30_000, -29_900, -3_000, -2_900]);
+    assert_eq!((far.numbers["regions"], far.numbers["ends"]), (17, 0));
+    assert_eq!(far.words("beyond"), [beyond, ""]);
 }

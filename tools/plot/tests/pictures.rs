@@ -36,10 +36,6 @@ fn knows_what_is_not_well_formed() {
     let read = texts(
         "<?xml version='1.0'?>\n<svg a=\"1\"  b = '>'><!-- < --><text>a &lt; b</text><g/></svg>\n",
     );
-    assert_eq!(read.unwrap_err(), "no second quote in \"'\"");
-    let read = texts(
-        "<?xml version='1.0'?>\n<svg a=\"1\"  b = '2'><!-- < --><text>a &lt; b</text><g/></svg>\n",
-    );
     assert_eq!(read.unwrap(), ["a < b"]);
     for text in [
         "",
@@ -51,6 +47,8 @@ fn knows_what_is_not_well_formed() {
         "<svg>&</svg>",
         "<svg>&nbsp;</svg>",
         "<svg>\u{1b}</svg>",
+        "<svg>\u{ffff}</svg>",
+        "<svg>]]></svg>",
         "<svg a=1/>",
         "<svg a='1'b='2'/>",
         "<svg a='1' a='2'/>",
@@ -63,6 +61,14 @@ fn knows_what_is_not_well_formed() {
     }
 }
 
+/// The words of a picture's data.
+fn words(data: &Data) -> Vec<&str> {
+    let blocks = ["title", "answer", "beyond"].into_iter();
+    let blocks = blocks.filter(|block| data.blocks.contains_key(*block));
+    let lines = blocks.flat_map(|block| data.words(block));
+    lines.filter(|line| !line.is_empty()).collect()
+}
+
 /// Each picture is well-formed and has the words of the data as they are today.
 #[test]
 fn stored_pictures_say_what_the_data_say() {
@@ -70,16 +76,8 @@ fn stored_pictures_say_what_the_data_say() {
     for (name, list) in PICTURES {
         let data = Data::of(&paths(&files(name, list)));
         let texts = xml::contents(&picture(name), "text").unwrap();
-        let lists: &[&str] = if list.is_some() { &["answer"] } else { &[] };
-        for block in ["title"].iter().chain(lists) {
-            for line in data
-                .words(block)
-                .into_iter()
-                .filter(|line| !line.is_empty())
-            {
-                assert!(texts.iter().any(|text| text == line), "{name}: {line}");
-            }
-        }
+        let missing = |line: &&str| !texts.iter().any(|text| text == line);
+        assert_eq!(words(&data).into_iter().find(missing), None, "{name}");
     }
 }
 
@@ -111,21 +109,30 @@ fn draws_the_stored_pictures() {
 
 #[test]
 #[ignore = "it needs gnuplot; tests/plot runs it where that is installed"]
-fn draws_every_card_whatever_its_name() {
+fn draws_every_card() {
     for card in examples("", "card") {
         let drawn = drawn(&[card]);
         assert!(xml::contents(&drawn, "text").unwrap().len() > 50);
     }
+}
+
+/// Names that gnuplot or XML could take for something else.
+const NAMES: [&str; 8] = [
+    "a'b\"c",
+    "'; print 1; '",
+    "`echo 1`",
+    "x<y>&z",
+    "a]]>b",
+    "@title \\n %s {^2}",
+    "$staged",
+    "END",
+];
+
+#[test]
+#[ignore = "it needs gnuplot; tests/plot runs it where that is installed"]
+fn draws_a_card_whatever_its_name() {
     let card = fs::read_to_string(example("dipole.card")).unwrap();
-    for name in [
-        "a'b\"c",
-        "'; print 1; '",
-        "`echo 1`",
-        "x<y>&z",
-        "@title \\n %s {^2}",
-        "$staged",
-        "END",
-    ] {
+    for name in NAMES {
         let drawn = drawn(&[written(&format!("{name}.card"), &card)]);
         let title = format!("{name}, degree 3");
         assert_eq!(xml::contents(&drawn, "title").unwrap(), [&*title]);

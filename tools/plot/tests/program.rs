@@ -55,7 +55,7 @@ const LISTS: [(&str, &str, &str); 7] = [
     (
         "empty_box",
         "         8         6       500         1\n         5         5         0         1         7\n",
-        ": refused 7: a box side is out of range, or a low side is not below its high side, in box 0",
+        ": refused 7: a box side is out of range, or a low side is not below its high side, in box 0 (counted from 0), line 2 of the list (counted from 1)",
     ),
     (
         "too_deep",

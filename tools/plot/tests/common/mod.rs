@@ -39,10 +39,11 @@ pub fn run(arguments: &[&Path]) -> Output {
     run_on(arguments, b"")
 }
 
-/// Runs the program with a text on standard input.
+/// Runs the program with a text on standard input, in the locale that knows the fewest characters.
 pub fn run_on(arguments: &[&Path], input: &[u8]) -> Output {
     let mut command = Command::new(env!("CARGO_BIN_EXE_plot"));
-    command.args(arguments).stdin(Stdio::piped());
+    command.args(arguments).env("LC_ALL", "C");
+    command.stdin(Stdio::piped());
     let piped = command.stdout(Stdio::piped()).stderr(Stdio::piped());
     let mut child = piped.spawn().unwrap();
     // A program that reads no input may have closed it.

@@ -43,8 +43,9 @@ impl<'a> Reader<'a> {
         } else if let Some(comment) = rest.strip_prefix("<!--") {
             self.pass(comment, "-->").map(|_| ())
         } else {
-            let tag = self.pass(&rest[1..], ">")?;
-            self.tag(tag)
+            let end = tag_end(rest).ok_or("a tag does not end")?;
+            self.rest = &rest[end + 1..];
+            self.tag(&rest[1..end])
         }
     }
 
@@ -76,6 +77,22 @@ impl<'a> Reader<'a> {
         }
         Ok(())
     }
+}
+
+/// Where the tag that a text begins with ends. In quotes no > ends it.
+fn tag_end(text: &str) -> Option<usize> {
+    let mut quote = None;
+    text.find(|c: char| match (quote, c) {
+        (Some(open), _) => {
+            quote = (open != c).then_some(open);
+            false
+        }
+        (None, '\'' | '"') => {
+            quote = Some(c);
+            false
+        }
+        (None, _) => c == '>',
+    })
 }
 
 fn check_name(name: &str) -> Result<(), String> {
@@ -115,6 +132,9 @@ fn check_attributes(text: &str) -> Result<(), String> {
 
 /// A text without its references.
 fn plain(text: &str) -> Result<String, String> {
+    if text.contains("]]>") {
+        return Err("]]> may not stand in a text".to_string());
+    }
     let mut pieces = text.split('&');
     let mut plain = pieces.next().unwrap_or_default().to_string();
     for piece in pieces {
@@ -131,7 +151,9 @@ fn plain(text: &str) -> Result<String, String> {
         });
         plain += rest;
     }
-    match plain.chars().find(|c| c.is_control() && !c.is_whitespace()) {
+    let barred =
+        |c: &char| c.is_control() && !c.is_whitespace() || *c >= '\u{fffe}' && *c <= '\u{ffff}';
+    match plain.chars().find(barred) {
         Some(c) => Err(format!("{c:?} may not stand in a text")),
         None => Ok(plain),
     }
