@@ -8,7 +8,7 @@ use std::thread;
 pub fn picture(text: &str) -> Result<String, String> {
     let mut command = Command::new("gnuplot");
     command.args(["--default-settings", "-"]);
-    // Elsewhere it warns that it cannot write the words.
+    // In a locale without these characters it warns that it cannot convert one.
     command.env("LC_ALL", "C.UTF-8");
     command.stdin(Stdio::piped()).stdout(Stdio::piped());
     let mut gnuplot = command.spawn().map_err(not_run)?;

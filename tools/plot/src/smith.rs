@@ -108,7 +108,7 @@ fn arc(from: Load, to: Load, points: &mut Vec<Option<Point>>) {
     }
 }
 
-/// Whether an arc from a over m to b is seen to be none of its chord. Far away nothing is seen.
+/// Whether an arc from a over m to b is seen to differ from its chord. Far away nothing is seen.
 fn is_bent(a: Point, m: Point, b: Point) -> bool {
     let centre = Point {
         real: (a.real + b.real) / 2.0,
