@@ -39,7 +39,7 @@ END
 panel = 'set lmargin at screen left/1./width; set rmargin at screen right/1./width; \
          set tmargin at screen 1 - top/1./height; set bmargin at screen 1 - bottom/1./height'
 
-# 1. Resistance and reactance across the band: the columns of their low and high sides, and the span's sides.
+# 1. Resistance and reactance across the band, one above the other: a and b are the columns of their low and high sides.
 place(k) = 16. * k / degree
 margin(low, high) = ohm(high > low ? 0.08 * (high - low) : 1)
 left = 100; right = 520
@@ -175,12 +175,12 @@ set label 7 'place in the band, in sixteenths' at 310,525 + 19*rows center
 set label 8 '2. The same on a Smith chart at 50 ohm' at 560,84 font ',15'
 set label 9 'circles of resistance and arcs of reactance, in ohm' at 780,534 center font ',10' textcolor rgb pale
 set label 10 words_of($beyond[1]) at 780,554 center font ',11'
-set label 16 words_of($beyond[2]) at 780,572 center font ',11'
-set label 11 'control rectangle' at 60,616 font ',12'
-set label 12 'span' at 220,616 font ',12'
-set label 13 'staged reading, rounded at each stage' at 306,616 font ',12'
-set label 14 'summed reading, rounded once' at 598,616 font ',12'
-set label 15 'lit: nothing was rounded' at 834,616 font ',12'
+set label 11 words_of($beyond[2]) at 780,572 center font ',11'
+set label 12 'control rectangle' at 60,616 font ',12'
+set label 13 'span' at 220,616 font ',12'
+set label 14 'staged reading, rounded at each stage' at 306,616 font ',12'
+set label 15 'summed reading, rounded once' at 598,616 font ',12'
+set label 16 'lit: nothing was rounded' at 834,616 font ',12'
 if (settings) {
   set label 20 '3. The boxes of the settings' at 24,672 font ',15'
   set label 21 'resistance, ohm' at 330,1026 center

@@ -20,7 +20,7 @@ pub fn all(text: &mut Text, answers: &Answers) {
     outlines(text, "summed_regions", &enclosed);
     lit(text, &answers.summed);
     text.number("window", WINDOW);
-    let unseen = staged.iter().filter(|load| !is_seen(**load)).count();
+    let unseen = staged.iter().filter(|load| !is_in(&DRAWN, **load)).count();
     let open = staged.iter().filter(|load| !is_enclosed(**load)).count();
     text.words("beyond", &words::beyond(unseen, open));
     let half = free_half(staged.iter().flat_map(|load| points(*load)));
@@ -70,13 +70,24 @@ fn points(rect: Rect) -> impl Iterator<Item = Point> {
     outline(rect).into_iter().flatten()
 }
 
+/// The part of the plane that is drawn.
+const DRAWN: Area = Area {
+    left: -WINDOW,
+    right: WINDOW,
+    bottom: -WINDOW,
+    top: WINDOW,
+};
+
 fn is_drawn(point: &Point) -> bool {
     point.real.abs() <= WINDOW && point.imaginary.abs() <= WINDOW
 }
 
-/// Whether some point of a rectangle's outline is drawn.
-fn is_seen(rect: Rect) -> bool {
-    points(rect).any(|point| is_drawn(&point))
+/// Whether something of a rectangle's outline lies in an area.
+fn is_in(area: &Area, rect: Rect) -> bool {
+    let outline = outline(rect);
+    let at = |point: &Point| (point.real, point.imaginary);
+    let mut ways = outline.windows(2);
+    ways.any(|way| matches!(way, [Some(from), Some(to)] if area.is_crossed(at(from), at(to))))
 }
 
 /// The half of the plane where fewer of some points are, above or below the middle, as a sign.
@@ -137,15 +148,8 @@ fn is_clear(angle: f64, kept: &[Rect]) -> bool {
             top: imaginary + RATIO_NAME.1,
         }
     });
-    let crossed = |from: Point, to: Point| {
-        let (from, to) = ((from.real, from.imaginary), (to.real, to.imaginary));
-        names.iter().any(|name| name.is_crossed(from, to))
-    };
-    !kept.iter().any(|rect| {
-        let outline = outline(*rect);
-        let mut ways = outline.windows(2);
-        ways.any(|way| matches!(way, [Some(from), Some(to)] if crossed(*from, *to)))
-    })
+    let hidden = |rect: &Rect| names.iter().any(|name| is_in(name, *rect));
+    !kept.iter().any(hidden)
 }
 
 /// To the right of a point beyond this stand the names of circles and arcs.
@@ -203,7 +207,8 @@ mod tests {
         let right = beside(rect([500, 501, 0, 1]), "0").unwrap();
         assert!(0.7 < right.real && right.real < 0.8, "{right:?}");
         assert_eq!(beside(rect([-30, -29, -3, -2]), "0"), None);
-        assert!(!is_seen(rect([-30, -29, -3, -2])) && is_seen(rect([-1, 0, 0, 1])));
+        let seen = |sides| is_in(&DRAWN, rect(sides));
+        assert!(!seen([-30, -29, -3, -2]) && seen([-1, 0, 0, 1]));
     }
 
     #[test]
@@ -214,7 +219,7 @@ mod tests {
         assert_eq!(free_half(below), 1);
     }
 
-    /// At 270 degrees the name of ratio 2 is at −0.38, where the load 50 − 40j is.
+    /// At 270 degrees the name of ratio 2 is at −0.38, where the load 38.5 − 33.5j is.
     #[test]
     fn looks_for_names_that_are_clear() {
         assert!(is_clear(-90.0, &[rect([50, 51, 0, 1])]));

@@ -160,21 +160,6 @@ mod tests {
 
     const STEPS: i32 = OHM as i32;
 
-    /// The load of a reflection in ohms: 50 (1 + Γ)/(1 − Γ).
-    fn load(point: Point) -> (f64, f64) {
-        let (a, b) = (1.0 - point.real, -point.imaginary);
-        let square = a * a + b * b;
-        let (c, d) = (1.0 + point.real, point.imaginary);
-        (
-            REFERENCE * (a * c + b * d) / square,
-            REFERENCE * (a * d - b * c) / square,
-        )
-    }
-
-    fn near(a: f64, b: f64) -> bool {
-        (a - b).abs() < 1e-6 * (1.0 + a.abs().max(b.abs()))
-    }
-
     /// Sides in ohms.
     fn rect(sides: [i32; 4]) -> Rect {
         sides.map(|side| side * STEPS).into()
@@ -190,30 +175,6 @@ mod tests {
         assert_eq!(reflection(0, 50), point(0.0, 1.0));
         assert_eq!(reflection(0, -50), point(0.0, -1.0));
         assert_eq!(reflection(-50, 0), None);
-    }
-
-    /// Each point is a load on an edge, the corners are there in their order, and the arcs turn by small steps.
-    #[test]
-    fn follows_the_edges() {
-        for sides in [
-            [10, 20, -5, 30],
-            [0, 16_384, -16_384, 16_384],
-            [-300, -60, -1, 1],
-            [-49, 700, 0, 3],
-            [-16_384, 16_384, 1, 2],
-        ] {
-            let points: Vec<Point> = outline(rect(sides)).into_iter().flatten().collect();
-            let [r_low, r_high, x_low, x_high] = sides.map(f64::from);
-            for point in &points {
-                let (r, x) = load(*point);
-                let on_side =
-                    (near(r, r_low) || near(r, r_high)) && x_low - 1e-3 < x && x < x_high + 1e-3;
-                let on_level =
-                    (near(x, x_low) || near(x, x_high)) && r_low - 1e-3 < r && r < r_high + 1e-3;
-                assert!(on_side || on_level, "{sides:?}: {r} {x}");
-            }
-            assert_eq!(points.first(), points.last());
-        }
     }
 
     #[test]

@@ -39,17 +39,14 @@ pub fn answer(chosen: &Chosen, unshown: Unshown) -> Vec<String> {
     let mut sentences = vec![choice(chosen)];
     sentences.extend(chosen.failed.map(|verdict| failure(chosen, verdict)));
     let notes = [
-        (unshown.around, "around the whole frame"),
-        (unshown.beyond, "beyond the frame"),
-        (unshown.unnamed, "without a name, for want of room"),
+        ("around the whole frame", unshown.around),
+        ("beyond the frame", unshown.beyond),
+        ("without room for a name", unshown.unnamed),
     ];
-    let notes = notes.into_iter().filter(|(count, _)| *count > 0);
-    let notes: Vec<String> = notes
-        .map(|(count, what)| format!("{count} {what}"))
-        .collect();
-    if !notes.is_empty() {
-        sentences.push(format!("Of the boxes {}.", notes.join(", ")));
-    }
+    let notes = notes.into_iter().filter(|(_, count)| *count > 0);
+    let note = |(which, count)| format!("Boxes {which}: {count}.");
+    let notes: Vec<String> = notes.map(note).collect();
+    sentences.extend((!notes.is_empty()).then(|| notes.join(" ")));
     let paragraphs: Vec<Vec<String>> = sentences.iter().map(|text| wrapped(text)).collect();
     paragraphs.join(&String::new())
 }

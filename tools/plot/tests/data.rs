@@ -85,11 +85,14 @@ fn expect_outline(rect: &[i64], outline: &[[f64; 2]]) {
     assert!(has(r_low, x_low) && has(r_low, x_high), "{rect:?}");
     assert!(has(r_high, x_low) && has(r_high, x_high), "{rect:?}");
     assert_eq!(outline.first(), outline.last());
-    let near = |a: f64, b: f64| (a - b).abs() < 1e-3 + 1e-6 * b.abs();
     for point in outline {
         let [r, x] = load(*point);
-        let across = (near(x, x_low) || near(x, x_high)) && r_low - 1e-3 < r && r < r_high + 1e-3;
-        let upright = (near(r, r_low) || near(r, r_high)) && x_low - 1e-3 < x && x < x_high + 1e-3;
+        // What nine decimals of a reflection leave open of its load.
+        let slack = 1e-6 + 1e-11 * ((r + 50.0) * (r + 50.0) + x * x);
+        let near = |a: f64, side: f64| (a - side).abs() < slack;
+        let between = |a: f64, low: f64, high: f64| low - slack < a && a < high + slack;
+        let across = (near(x, x_low) || near(x, x_high)) && between(r, r_low, r_high);
+        let upright = (near(r, r_low) || near(r, r_high)) && between(x, x_low, x_high);
         assert!(across || upright, "{rect:?}: {r} {x}");
     }
 }
@@ -117,6 +120,32 @@ fn has_the_regions_of_the_same_rectangles() {
         expect_outlines(&data, "summed_outlines", &rects("summed"));
         expect_outlines(&data, "summed_regions", &rects("summed"));
         assert_eq!(data.numbers["regions"], 17);
+    }
+}
+
+/// A card of degree 1 with these sides at both ends.
+fn constant(name: &str, sides: [i32; 4]) -> Data {
+    let row = sides.map(|side| format!("{side:>10}")).concat();
+    let card = format!("{:>10}\n{row}\n{row}\n", 1);
+    Data::of(&[&written(name, &card)])
+}
+
+/// Wide, narrow, and past −50 ohms on either side, in ohms.
+const ODD: [[i32; 4]; 5] = [
+    [10, 20, -5, 30],
+    [0, 16_384, -16_384, 16_384],
+    [-300, -60, -1, 1],
+    [-49, 700, 0, 3],
+    [-16_384, 16_384, 1, 2],
+];
+
+#[test]
+fn has_the_regions_of_odd_rectangles() {
+    for (k, ohms) in ODD.iter().enumerate() {
+        let rect = ohms.map(|side| side * 1024);
+        let data = constant(&format!("odd_{k}.card"), rect);
+        let rects = vec![rect.map(i64::from).to_vec(); 17];
+        expect_outlines(&data, "staged_outlines", &rects);
     }
 }
 
@@ -230,7 +259,7 @@ fn counts_the_boxes_that_are_not_shown() {
         "Setting 40 fits, record 0 of 3 (counted from 0): every load of the band lies in its box.";
     let beyond = [16_000_000, 16_000_001, 0, 1];
     let around = [-16_777_216, 16_777_216, -16_777_216, 16_777_216];
-    let unshown = "Of the boxes 1 around the whole frame, 1 beyond the frame.";
+    let unshown = "Boxes around the whole frame: 1. Boxes beyond the frame: 1.";
     let boxes = settings(&[HOLDS, beyond, around]);
     expect_list("unshown", 6, 500, &boxes, &[fits, unshown]);
 }
@@ -242,18 +271,8 @@ fn counts_the_boxes_without_a_name() {
     let named = data.numbers["names"];
     assert_eq!(named as usize, data.blocks["names"].len());
     assert!(0 < named && named < 64);
-    let unnamed = format!(
-        "Of the boxes {} without a name, for want of room.",
-        64 - named
-    );
+    let unnamed = format!("Boxes without room for a name: {}.", 64 - named);
     assert!(data.words("answer").join(" ").ends_with(&unnamed));
-}
-
-/// A card of degree 1 with these sides at both ends.
-fn constant(name: &str, sides: [i32; 4]) -> Data {
-    let row = sides.map(|side| format!("{side:>10}")).concat();
-    let card = format!("{:>10}\n{row}\n{row}\n", 1);
-    Data::of(&[&written(name, &card)])
 }
 
 /// A region with −50 ohms in it is not filled, and what is not drawn has no name.
