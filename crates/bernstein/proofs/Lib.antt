@@ -15,3 +15,4 @@ pub mod Curve
 pub mod Rounded
 pub mod WholeSum
 pub mod Unrounded
+pub mod WholeWeight

@@ -7,8 +7,7 @@ use lib.Signed.{mag}
 use mir.Syntax.{w32, w64}
 use mir.Val.{SFits, toZ, ofZ, hbits}
 use mir.ValLaws.{toZ-ofZ}
-use Rattle.curve.proofs.Machine.{told}
-use Rattle.curve.proofs.Sides.{wide}
+use Rattle.rational.proofs.Machine.{told, wide}
 
 module _ (z : ℤ) (h : mag z < 2 ^ hbits w32) where
   pub widens : SFits w64 (toZ w32 (ofZ w32 z))

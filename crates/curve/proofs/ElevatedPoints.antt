@@ -35,13 +35,13 @@ module _ (n : ℕ) (P : ℕ → Rect) where
   unfolding elevatedExact
   exact-first =
       let all : n + 1 - 0 ≡ n + 1 = omega arith in
-      ap (λ (m : ℕ). exactRect 0 m (n + 1) (P 0) (P 0)) all ∙ exact-rect-second (n + 1) (omega arith) (P 0) (P 0)
+      ap (λ (m : ℕ). exactRect 0 m (n + 1) (P 0) (P 0)) all ∙ exact-rect-second (n + 1) (P 0) (P 0)
 
   pub exact-last : elevatedExact n P (n + 1) ≡ true
   unfolding elevatedExact
   exact-last =
       ap (λ (m : ℕ). exactRect (n + 1) m (n + 1) (P (n + 1 - 1)) (P (n + 1))) (sub-self (n + 1))
-      ∙ exact-rect-first (n + 1) (omega arith) (P (n + 1 - 1)) (P (n + 1))
+      ∙ exact-rect-first (n + 1) (P (n + 1 - 1)) (P (n + 1))
 
   pub exact-next : (k : ℕ) → exactRect (k + 1) (n + 1 - (k + 1)) (n + 1) (P k) (P (k + 1)) ≡ elevatedExact n P (k + 1)
   unfolding elevatedExact

@@ -1,7 +1,5 @@
 -- Laws of the definitions in specs/.
-pub mod Machine
 pub mod Sides
-pub mod Estimate
 pub mod Weighing
 pub mod Refused
 pub mod Places

@@ -13,14 +13,14 @@ use lib.Dec.{eqb}
 use lib.IntN.{ℤ, pos}
 use lib.ListN.{length, getD, set, replicate, length-set, length-replicate}
 use lib.Seq.{getD-set-same, getD-set-other}
-use Rattle.rational.specs.Rounding.{down, up}
+use Rattle.rational.specs.Rounding.{down, up, roundingOf}
 use Rattle.bernstein.specs.Affine.{affine, affineExact}
 use Rattle.bernstein.specs.DeCasteljau.{allBelow}
 use Rattle.bernstein.proofs.EveryMap.{all-zero, all-next}
 use Rattle.curve.specs.declared.Rect.{Rect}
 use Rattle.curve.specs.Limits.{places}
 use Rattle.curve.specs.Rect.{affineInterval, affineRect, exactInterval, exactRect, resistance, reactance}
-use Rattle.curve.specs.Inner.{Side, Held, Clear, Stored, Staged, allSides, placed, roundingOf}
+use Rattle.curve.specs.Inner.{Side, Held, Clear, Stored, Staged, allSides, placed}
 
 -- ---- zeros
 

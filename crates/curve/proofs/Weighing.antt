@@ -17,34 +17,34 @@ use Rattle.bernstein.specs.Affine.{affine, affineExact}
 use Rattle.curve.specs.declared.Rect.{Rect}
 use Rattle.curve.specs.declared.affine.RectMap.{RectMap}
 use Rattle.curve.specs.declared.affine.Weights.{Weights}
-use Rattle.curve.specs.Limits.{maxDen}
+use Rattle.curve.specs.Limits.{maxDegree, maxDen}
 use Rattle.curve.specs.Rect.{affineRect, exactRect}
 use Rattle.curve.specs.Inner.{Side, Part, Weighed, scale, turnsOf}
-use Rattle.curve.proofs.Sides.{within-fits}
-use Rattle.curve.proofs.Estimate.{Step, division-free}
+use Rattle.rational.proofs.Machine.{within-fits}
+use Rattle.rational.proofs.Estimate.{Step, division-free}
 
 -- ---- the estimate
 
 -- a part is hardly larger than the scale
-most-part : (t d p : ℕ) → 0 < d → t ≤ d → Part t d p → p ≤ scale + 8
+most-part : (t d p : ℕ) → 0 < d → t ≤ d → Part t d p → p ≤ scale + maxDegree
 most-part t d p positive most part =
     let factor : t * scale ≤ d * scale = mul-le-mul-right scale most in
     let above = part .most in
-    let both : p * d ≤ (scale + 8) * d = omega arith in
+    let both : p * d ≤ (scale + maxDegree) * d = omega arith in
     le-of-mul-le-mul-right both positive
 
 module _ (by : ℕ) (w : Weights) (far : by ≤ 33554432 + w .lift) (h : Weighed w) where
   abbrev pub near : ℕ
   near = by * w .part / scale
 
-  part-small : w .part ≤ scale + 8
+  part-small : w .part ≤ scale + maxDegree
   part-small = most-part (w .t) (w .den) (w .part) (h .factor .positive) (h .factor .most) (h .part)
 
   by-small : by ≤ 67174399
   by-small = let low = h .low in omega arith
 
   -- the two products fit 64 bits
-  pub part-product : by * w .part ≤ 67174399 * (scale + 8)
+  pub part-product : by * w .part ≤ 67174399 * (scale + maxDegree)
   part-product = mul-le-mul {n₁ = by} {m₁ = w .part} {n₂ = 67174399} by-small part-small
 
   pub factor-product : by * w .t ≤ 67174399 * maxDen
@@ -55,7 +55,7 @@ module _ (by : ℕ) (w : Weights) (far : by ≤ 33554432 + w .lift) (h : Weighed
 
   -- the estimate is off by less than 1
   pub nearby : Step (by * w .t) (w .den) near
-  nearby = division-free scale (w .den) (w .t) (w .part) 8 by (omega arith) (h .factor .positive) (h .part .least) (h .part .most) (let s = by-small in omega arith)
+  nearby = division-free scale (w .den) (w .t) (w .part) maxDegree by (omega arith) (h .factor .positive) (h .part .least) (h .part .most) (let s = by-small in omega arith)
 
   -- the estimate is at most the distance
   pub near-small : near ≤ 67174399
@@ -185,14 +185,14 @@ part-at t d positive =
     let high = lt-div-mul-add {a = t * scale + d - 1} positive in
     record { least = omega arith; most = omega arith }
 
-pub part-times : (t d : ℕ) → 0 < d → t ≤ 8 → Part t d (t * ((scale + d - 1) / d))
+pub part-times : (t d : ℕ) → 0 < d → t ≤ maxDegree → Part t d (t * ((scale + d - 1) / d))
 part-times t d positive few =
     let u : ℕ = (scale + d - 1) / d in
     let low = div-mul-le-self (scale + d - 1) d in
     let high = lt-div-mul-add {a = scale + d - 1} positive in
     let least : t * scale ≤ t * (u * d) = mul-le-mul-left t (omega arith) in
     let most : t * (u * d) ≤ t * (scale + d) = mul-le-mul-left t (omega arith) in
-    let excess : t * d ≤ 8 * d = mul-le-mul-right d few in
+    let excess : t * d ≤ maxDegree * d = mul-le-mul-right d few in
     record { least = omega arith; most = omega arith }
 
 -- parts fit 32 bits

@@ -1,20 +1,20 @@
 -- What the functions inside the crate ask of each other. No public contract cites it.
 -- Assumes nothing.
 use mathlib.Core.Path.{_≡_}
-use mathlib.Core.Bool.{Bool, true, false}
+use mathlib.Core.Bool.{Bool}
 use mathlib.Core.List.{List}
 use Prim.Native.Nat.{ℕ, suc, _+_, _*_, _/_, _≤_, _<_}
 use lib.IntN.{ℤ, pos, negℤ}
 use lib.ListN.{length, getD}
 use lib.Signed.{_≤ℤ_}
-use Rattle.rational.specs.Rounding.{Rounding, down, up}
+use Rattle.rational.specs.Rounding.{Rounding}
 use Rattle.bernstein.specs.DeCasteljau as DeCasteljau
 use Rattle.bernstein.specs.DeCasteljau.{allBelow}
 use Rattle.curve.specs.declared.Interval.{Interval}
 use Rattle.curve.specs.declared.Rect.{Rect}
 use Rattle.curve.specs.declared.Curve.{Curve}
 use Rattle.curve.specs.declared.affine.Weights.{Weights}
-use Rattle.curve.specs.Limits.{maxDegree, maxSide, maxDen}
+use Rattle.curve.specs.Limits.{maxDegree, places, maxSide, maxDen}
 use Rattle.curve.specs.Rect.{Coordinate, zeroRect, end, along, affineRect, exactRect}
 use Rattle.curve.specs.Curve.{point}
 
@@ -47,10 +47,10 @@ pub record Factor (t den : ℕ) : Type 0 where
 abbrev pub scale : ℕ
 scale = 2147483648
 
--- t / den in parts of the scale, or at most 8 parts more
+-- t / den in parts of the scale, or at most as many parts more as the highest degree, the largest factor of an elevation
 pub record Part (t den part : ℕ) : Type 0 where
   pub least : t * scale ≤ part * den
-  pub most : part * den ≤ t * scale + 8 * den
+  pub most : part * den ≤ t * scale + maxDegree * den
 
 -- how often a divisor goes into the least multiple of it that is at least twice the largest side
 abbrev pub turnsOf : ℕ → ℕ
@@ -64,15 +64,11 @@ pub record Weighed (w : Weights) : Type 0 where
   pub high : 33554432 ≤ w .lift
   pub low : w .lift ≤ 33554431 + maxDen
 
-abbrev pub roundingOf : Bool → Rounding
-roundingOf true = up
-roundingOf false = down
-
 -- ---- a table's sides, one after the other, four for each place
 
 -- how many there are
 abbrev pub allSides : ℕ
-allSides = 36
+allSides = 4 * places
 
 -- the rectangle at place k
 unfoldable pub placed : List ℤ → ℕ → Rect

@@ -3,11 +3,11 @@
 ghost use mathlib.Core.Path.{_≡_};
 ghost use Prim.Native.Nat.{ℕ, _+_, _*_, _<_, _≤_};
 ghost use lib.IntN.{pos};
-ghost use Rattle.rational.specs.Rounding.{quotient, divisible};
+ghost use Rattle.rational.specs.Rounding.{roundingOf, quotient, divisible};
 ghost use Rattle.bernstein.specs.Affine.{affine, affineExact};
 ghost use Rattle.curve.specs.Limits.{maxDen};
 ghost use Rattle.curve.specs.Rect.{affineInterval, affineRect, exactInterval, exactRect};
-ghost use Rattle.curve.specs.Inner.{Side, Sides, Held, Part, Weighed, turnsOf, roundingOf};
+ghost use Rattle.curve.specs.Inner.{Side, Sides, Held, Part, Weighed, turnsOf};
 use crate::Interval;
 use crate::Rect;
 

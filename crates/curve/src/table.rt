@@ -28,7 +28,7 @@ use crate::zeros::zero_rect;
 // The sides of a rectangle, and of all places of a curve's record.
 const RECT_SIDES: usize = 4;
 
-pub const SIDES: usize = 36;
+pub const SIDES: usize = RECT_SIDES * PLACES;
 
 // Stores a rectangle's sides at a place.
 fn store_rect(sides: &mut [i32; SIDES], k: usize, p: Rect)

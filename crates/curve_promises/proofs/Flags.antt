@@ -2,7 +2,7 @@
 -- Assumes nothing.
 use mathlib.Core.Path.{_≡_, sym, ap, _∙_, subst, subst₂}
 use mathlib.Core.Bool.{Bool, true, false}
-use Prim.Native.Nat.{ℕ, suc, _+_, _-_, _≤_, _<_}
+use Prim.Native.Nat.{ℕ, suc, _+_, _-_, _≤_}
 use native.Mathlib.Nat.{sub-zero, sub-self}
 use native.Mathlib.Omega.{arith}
 use lib.Dec.{T, eqb}
@@ -22,7 +22,7 @@ use Rattle.curve.specs.Refusals.{Accepted, AcceptedAt}
 use Rattle.curve.specs.Calls.{callRefusal, subdivisionRefusal, elevationRefusal, evaluated, subdivided}
 use Rattle.curve_promises.specs.Promises.{SameFlag, Lit, LitEnds, LitAccepted}
 use Rattle.curve.proofs.Refused.{by-number}
-use Rattle.curve.proofs.Accepted.{call-accepted, subdivision-accepted, subdivision-refused, elevation-accepted, parameter-facts}
+use Rattle.curve.proofs.Accepted.{call-accepted, subdivision-accepted, subdivision-refused, elevation-accepted}
 use Rattle.curve.proofs.Answers.{evaluated-accepted, evaluated-refused, subdivided-accepted, subdivided-refused, elevated-refused}
 use Rattle.curve.proofs.WholeWeight.{exact-rect-first, exact-rect-second}
 use Rattle.curve_promises.proofs.EndPoints.{start-accepted}
@@ -65,12 +65,12 @@ all-lit : (c : Curve) (num den : ℕ) → ((p q : Rect) → exactAt num den p q 
 unfolding tableExact
 all-lit c num den all = every-of (mapAt num den) (exactAt num den) (point c) (c .degree) (λ j k h. all _ _)
 
-module _ (c : Curve) (den : ℕ) (positive : 0 < den) where
+module _ (c : Curve) (den : ℕ) where
   lit-first : tableExact c 0 den ≡ true
-  lit-first = all-lit c 0 den (λ p q. ap (λ (s : ℕ). exactRect s 0 den p q) (sub-zero den) ∙ exact-rect-first den positive p q)
+  lit-first = all-lit c 0 den (λ p q. ap (λ (s : ℕ). exactRect s 0 den p q) (sub-zero den) ∙ exact-rect-first den p q)
 
   lit-last : tableExact c den den ≡ true
-  lit-last = all-lit c den den (λ p q. ap (λ (s : ℕ). exactRect s den den p q) (sub-self den) ∙ exact-rect-second den positive p q)
+  lit-last = all-lit c den den (λ p q. ap (λ (s : ℕ). exactRect s den den p q) (sub-self den) ∙ exact-rect-second den p q)
 
 both-lit : (c : Curve) (num den : ℕ) → Accepted c → AcceptedAt num den → tableExact c num den ≡ true → Lit c num den
 both-lit c num den a h lit =
@@ -78,9 +78,7 @@ both-lit c num den a h lit =
     (first, λ room. sym (same-flag c num den room) ∙ first)
 
 pub lit-ends : LitEnds
-lit-ends c den a h =
-    let positive = parameter-facts den den h .factors .positive in
-    (both-lit c 0 den a (start-accepted den h) (lit-first c den positive), both-lit c den den a h (lit-last c den positive))
+lit-ends c den a h = (both-lit c 0 den a (start-accepted den h) (lit-first c den), both-lit c den den a h (lit-last c den))
 
 -- ---- what a lit flag says of each side
 

@@ -8,3 +8,5 @@ pub mod Rational
 pub mod RationalOrder
 pub mod Fractions
 pub mod Division
+pub mod Machine
+pub mod Estimate

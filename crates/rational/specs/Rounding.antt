@@ -1,6 +1,6 @@
 -- A whole number divided by a natural number and rounded to a whole number: down for a low side, up for a high side, also below zero.
 -- Assumes nothing.
-use mathlib.Core.Bool.{Bool}
+use mathlib.Core.Bool.{Bool, true, false}
 use Prim.Native.Nat.{ℕ, _/_, _%_}
 use lib.Dec.{eqb}
 use lib.IntN.{ℤ, pos, negsuc, negℤ, natAbs}
@@ -9,6 +9,11 @@ use lib.IntN.{ℤ, pos, negsuc, negℤ, natAbs}
 pub data Rounding : Type 0 where
   down : Rounding
   up : Rounding
+
+-- the way that a flag tells: up where it is true
+abbrev pub roundingOf : Bool → Rounding
+roundingOf true = up
+roundingOf false = down
 
 -- the greatest whole number that is at most z / d; `negsuc m` is −(m + 1)
 unfoldable pub floor : ℤ → ℕ → ℤ

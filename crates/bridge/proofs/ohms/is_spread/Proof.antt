@@ -4,7 +4,7 @@ use mathlib.Core.Path.{_∙_}
 use lib.IntN.{pos}
 use lib.Ieee.{binary32, toBits}
 use borrow.Author.Tests.{le-leb, lt-leb}
-use Rattle.curve.proofs.Machine.{or-yes, or-no}
+use Rattle.rational.proofs.Machine.{or-yes, or-no}
 use Rattle.bridge.specs.Value.{maxOhms}
 use Rattle.bridge.specs.Inner.{largest}
 use Rattle.bridge.proofs.ByBits.{not-itself, itself, spread-is}

@@ -12,7 +12,7 @@ use mir.Syntax.{w32}
 use mir.Val.{toZ, boolByte}
 use borrow.Author.Needs.{needs}
 use Rattle.rational.specs.Rounding.{down, up, quotient, floor}
-use Rattle.curve.proofs.Machine.{signed}
+use Rattle.rational.proofs.Machine.{signed}
 use Rattle.bridge.specs.Inner.{field, largest, step, unitsOf, sizeAbout}
 use Rattle.bridge.proofs.Sizes.{up-less-one, small-low, small-high, shifted}
 use Rattle.bridge.proofs.ohms.size_about.Statement.{statement}

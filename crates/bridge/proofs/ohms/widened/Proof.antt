@@ -8,8 +8,8 @@ use mir.Val.{SFits}
 use Rattle.rational.specs.Rounding.{down, up}
 use Rattle.rational.proofs.Order.{+ℤ-mono}
 use Rattle.curve.specs.Inner.{Side}
-use Rattle.curve.proofs.Machine.{back}
-use Rattle.curve.proofs.Sides.{within-fits, side-back}
+use Rattle.rational.proofs.Machine.{back, within-fits}
+use Rattle.curve.proofs.Sides.{side-back}
 use Rattle.bridge.proofs.Steps.{negated}
 use Rattle.bridge.proofs.ohms.widened.Statement.{statement}
 use Rattle.bridge.proofs.ohms.widened.Tie as tie

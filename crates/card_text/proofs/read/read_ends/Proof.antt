@@ -4,7 +4,7 @@ use mathlib.Core.Path.{ap, ap₂, _∙_}
 use lib.IntN.{ℤ}
 use Rattle.curve.specs.declared.Refusal.{Refusal}
 use Rattle.curve.specs.Refusals.{_orElse_}
-use Rattle.curve.proofs.Machine.{told as told32}
+use Rattle.rational.proofs.Machine.{told as told32}
 use Rattle.card_text.specs.Reading.{endsRefusal, intervalAt}
 use Rattle.card_text.specs.Inner.{limited, limitedEnds}
 use Rattle.columns.proofs.Signed.{told}

@@ -5,7 +5,7 @@ use mathlib.Core.Bool.{_&&_}
 use Rattle.rational.specs.Rounding.{down, up}
 use Rattle.bernstein.specs.Affine.{affine, affineExact}
 use Rattle.curve.specs.Rect.{affineInterval, exactInterval}
-use Rattle.curve.proofs.Machine.{told}
+use Rattle.rational.proofs.Machine.{told}
 use Rattle.curve.proofs.Sides.{side-back, side-passed}
 use Rattle.curve.proofs.affine.affine_interval.Statement.{statement}
 use Rattle.curve.proofs.affine.affine_interval.Tie as tie

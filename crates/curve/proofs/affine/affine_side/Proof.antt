@@ -6,10 +6,10 @@ use native.Mathlib.Omega.{arith}
 use lib.IntN.{ℤ, pos, _+ℤ_, _-ℤ_}
 use mir.Syntax.{w32}
 use mir.Val.{toZ, ofZ}
-use Rattle.rational.specs.Rounding.{quotient}
+use Rattle.rational.specs.Rounding.{roundingOf, quotient}
 use Rattle.bernstein.specs.Affine.{affine}
-use Rattle.curve.specs.Inner.{Side, roundingOf}
-use Rattle.curve.proofs.Machine.{back, signed, told}
+use Rattle.curve.specs.Inner.{Side}
+use Rattle.rational.proofs.Machine.{back, signed, told}
 use Rattle.curve.proofs.Sides.{side-back, side-fits}
 use Rattle.curve.proofs.Stages.{affine-side-held}
 use Rattle.curve.proofs.Weighing.{Distance, distance, difference-fits, back-most, start-fits, reached, left-none}

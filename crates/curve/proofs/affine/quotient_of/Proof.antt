@@ -9,8 +9,8 @@ use lib.IntN.{ℤ, pos, _+ℤ_, _-ℤ_}
 use lib.Signed.{mag, ltZ}
 use mir.Syntax.{w32, w64}
 use mir.Val.{SFits, toZ, ofZ, boolByte}
-use Rattle.curve.proofs.Machine.{back, signed, back-wide, signed-wide, bit-small, signed-bit, bits-zero}
-use Rattle.curve.proofs.Estimate.{Step, rest, difference-past}
+use Rattle.rational.proofs.Machine.{back, signed, back-wide, signed-wide, bit-small, signed-bit, bits-zero}
+use Rattle.rational.proofs.Estimate.{Step, rest, difference-past}
 use Rattle.curve.proofs.Weighing.{near, part-product, factor-product, nearby, near-small}
 use Rattle.curve.proofs.affine.quotient_of.Statement.{statement}
 use Rattle.curve.proofs.affine.quotient_of.Tie as tie

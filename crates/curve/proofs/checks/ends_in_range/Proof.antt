@@ -3,7 +3,7 @@
 use mathlib.Core.Path.{sym, ap, _∙_}
 use borrow.Author.Needs.{needs}
 use Rattle.curve.specs.Rect.{inRange, endsInRange}
-use Rattle.curve.proofs.Machine.{told, and-yes, and-no}
+use Rattle.rational.proofs.Machine.{told, and-yes, and-no}
 use Rattle.curve.proofs.checks.ends_in_range.Statement.{statement}
 use Rattle.curve.proofs.checks.ends_in_range.Tie as tie
 

@@ -1,7 +1,7 @@
 -- `ends_ordered` meets its contract.
 -- Assumes nothing.
 use Rattle.curve.specs.Rect.{endsOrdered}
-use Rattle.curve.proofs.Machine.{told}
+use Rattle.rational.proofs.Machine.{told}
 use Rattle.curve.proofs.checks.ends_ordered.Statement.{statement}
 use Rattle.curve.proofs.checks.ends_ordered.Tie as tie
 

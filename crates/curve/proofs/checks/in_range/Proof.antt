@@ -1,7 +1,7 @@
 -- `in_range` meets its contract: each bound is tested as the definition tests it.
 -- Assumes nothing.
 use Rattle.curve.specs.Rect.{inRange}
-use Rattle.curve.proofs.Machine.{back, and-yes, and-no}
+use Rattle.rational.proofs.Machine.{back, and-yes, and-no}
 use Rattle.curve.proofs.checks.in_range.Statement.{statement}
 use Rattle.curve.proofs.checks.in_range.Tie as tie
 

@@ -1,7 +1,7 @@
 -- `is_from_one_to` meets its contract: the two tests are the definition's.
 -- Assumes nothing.
 use borrow.Author.Tests.{le-leb, lt-leb}
-use Rattle.curve.proofs.Machine.{and-yes, and-no}
+use Rattle.rational.proofs.Machine.{and-yes, and-no}
 use Rattle.curve.proofs.checks.is_from_one_to.Statement.{statement}
 use Rattle.curve.proofs.checks.is_from_one_to.Tie as tie
 

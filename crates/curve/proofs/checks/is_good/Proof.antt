@@ -4,7 +4,7 @@ use mathlib.Core.Path.{sym, _∙_}
 use mathlib.Core.Bool.{_&&_}
 use borrow.Author.Needs.{needs}
 use Rattle.curve.specs.Rect.{endsInRange, sidesInRange, endsOrdered, sidesOrdered}
-use Rattle.curve.proofs.Machine.{and-yes, and-no}
+use Rattle.rational.proofs.Machine.{and-yes, and-no}
 use Rattle.curve.proofs.GoodSides.{by-coordinate}
 use Rattle.curve.proofs.checks.is_good.Statement.{statement}
 use Rattle.curve.proofs.checks.is_good.Tie as tie

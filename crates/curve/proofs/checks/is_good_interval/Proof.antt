@@ -1,7 +1,7 @@
 -- `is_good_interval` meets its contract: its three tests tell what its definition asks by five.
 -- Assumes nothing.
 use mathlib.Core.Path.{_∙_}
-use Rattle.curve.proofs.Machine.{told, and-yes, and-no}
+use Rattle.rational.proofs.Machine.{told, and-yes, and-no}
 use Rattle.curve.proofs.GoodSides.{good-interval}
 use Rattle.curve.proofs.checks.is_good_interval.Statement.{statement}
 use Rattle.curve.proofs.checks.is_good_interval.Tie as tie

@@ -3,7 +3,7 @@
 use mathlib.Core.Path.{sym, _∙_}
 use borrow.Author.Needs.{needs}
 use Rattle.curve.specs.Rect.{sidesInRange}
-use Rattle.curve.proofs.Machine.{and-yes, and-no}
+use Rattle.rational.proofs.Machine.{and-yes, and-no}
 use Rattle.curve.proofs.checks.sides_in_range.Statement.{statement}
 use Rattle.curve.proofs.checks.sides_in_range.Tie as tie
 

@@ -5,7 +5,7 @@ use lib.Dec.{T}
 use lib.IntN.{ℤ}
 use lib.Ieee.{binary32, inFloat, ofInt, ofBits}
 use Rattle.curve.specs.Ohms.{ohm}
-use Rattle.curve.proofs.Machine.{back}
+use Rattle.rational.proofs.Machine.{back}
 use Rattle.curve.proofs.Sides.{side-in-float}
 use Rattle.curve.proofs.display.ohms_of_side.Statement.{statement}
 use Rattle.curve.proofs.display.ohms_of_side.Tie as tie

@@ -1,7 +1,7 @@
 -- `greatest_of` meets its contract: the test picks as the definition does.
 -- Assumes nothing.
 use Rattle.curve.specs.Rect.{greatest}
-use Rattle.curve.proofs.Machine.{back}
+use Rattle.rational.proofs.Machine.{back}
 use Rattle.curve.proofs.hull.greatest_of.Statement.{statement}
 use Rattle.curve.proofs.hull.greatest_of.Tie as tie
 

@@ -3,7 +3,7 @@
 use mathlib.Core.Path.{ap₂}
 use borrow.Author.Needs.{needs}
 use Rattle.curve.specs.Rect.{least, greatest, hullInterval}
-use Rattle.curve.proofs.Machine.{told}
+use Rattle.rational.proofs.Machine.{told}
 use Rattle.curve.proofs.hull.hull_interval.Statement.{statement}
 use Rattle.curve.proofs.hull.hull_interval.Tie as tie
 

@@ -1,7 +1,7 @@
 -- `least_of` meets its contract: the test picks as the definition does.
 -- Assumes nothing.
 use Rattle.curve.specs.Rect.{least}
-use Rattle.curve.proofs.Machine.{back}
+use Rattle.rational.proofs.Machine.{back}
 use Rattle.curve.proofs.hull.least_of.Statement.{statement}
 use Rattle.curve.proofs.hull.least_of.Tie as tie
 

@@ -6,7 +6,7 @@ use native.Mathlib.Omega.{arith}
 use lib.IntN.{pos}
 use lib.ListN.{length, getD, length-set}
 use Rattle.curve.specs.Inner.{Side, allSides}
-use Rattle.curve.proofs.Machine.{told}
+use Rattle.rational.proofs.Machine.{told}
 use Rattle.curve.proofs.Sides.{side-back, side-passed}
 use Rattle.curve.proofs.Placed.{Passed, passed-start, passed-next, passed-staged, side-held}
 use Rattle.curve.proofs.table.stage.Statement.{statement}
@@ -22,7 +22,7 @@ abbrev μ-loop : tie.MeasureT-loop
 μ-loop sides₀ m w end exact₀ i₀ sides exact i = end - i
 
 -- in a turn there is room for the side and for the one four places on
-inside : (c : tie.In-loop Inv-loop μ-loop) → c .before .loop .i + 4 < 36
+inside : (c : tie.In-loop Inv-loop μ-loop) → c .before .loop .i + 4 < allSides
 inside c = let few = c .before .before .pre .1 .0 in omega arith
 
 -- both are in range

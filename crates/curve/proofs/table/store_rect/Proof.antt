@@ -1,7 +1,7 @@
 -- `store_rect` meets its contract: four stores, one after the other.
 -- Assumes nothing.
 use borrow.Author.Needs.{needs}
-use Rattle.curve.proofs.Machine.{told}
+use Rattle.rational.proofs.Machine.{told}
 use Rattle.curve.proofs.Placed.{stored}
 use Rattle.curve.proofs.table.store_rect.Statement.{statement}
 use Rattle.curve.proofs.table.store_rect.Tie as tie

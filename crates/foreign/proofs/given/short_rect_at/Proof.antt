@@ -1,7 +1,7 @@
 -- `short_rect_at` meets its contract: four sides in their order.
 -- Assumes nothing.
 use borrow.Author.Needs.{needs}
-use Rattle.curve.proofs.Machine.{told}
+use Rattle.rational.proofs.Machine.{told}
 use Rattle.foreign.specs.Numbers.{rectAt}
 use Rattle.foreign.proofs.given.short_rect_at.Statement.{statement}
 use Rattle.foreign.proofs.given.short_rect_at.Tie as tie

@@ -2,7 +2,7 @@
 -- Assumes nothing.
 use Prim.Native.Nat.{_+_}
 use borrow.Author.Needs.{needs}
-use Rattle.curve.proofs.Machine.{told}
+use Rattle.rational.proofs.Machine.{told}
 use Rattle.foreign.specs.Numbers.{sideAt, rectAt}
 use Rattle.foreign.proofs.given.whole_rect_at.Statement.{statement}
 use Rattle.foreign.proofs.given.whole_rect_at.Tie as tie

@@ -12,7 +12,7 @@ use mir.Syntax.{w32}
 use mir.Val.{toZ, ofZ}
 use Rattle.curve.specs.declared.Curve.{Curve}
 use Rattle.curve.specs.Curve.{point}
-use Rattle.curve.proofs.Machine.{told}
+use Rattle.rational.proofs.Machine.{told}
 use Rattle.card_text.specs.Card.{sides}
 use Rattle.foreign.specs.Numbers.{sidesTo, curveNumbers}
 use Rattle.foreign.proofs.Lent.{front, front-length, front-same, front-next}

@@ -4,7 +4,7 @@ use native.Mathlib.Numerals.{add-one, add-two, add-three}
 use native.Mathlib.Omega.{arith}
 use borrow.Author.Needs.{needs}
 use lib.ListN.{length-set}
-use Rattle.curve.proofs.Machine.{told}
+use Rattle.rational.proofs.Machine.{told}
 use Rattle.foreign.proofs.results.store_rect.Statement.{statement}
 use Rattle.foreign.proofs.results.store_rect.Tie as tie
 

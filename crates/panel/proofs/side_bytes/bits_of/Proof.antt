@@ -6,8 +6,7 @@ use lib.IntN.{pos, _+ℤ_}
 use mir.Syntax.{w32, w64}
 use mir.Val.{SFits, toZ, ofZ}
 use mir.ValLaws.{toZ-ofZ}
-use Rattle.curve.proofs.Machine.{back}
-use Rattle.curve.proofs.Sides.{wide}
+use Rattle.rational.proofs.Machine.{back, wide}
 use Rattle.panel.specs.Panel.{bitsOf}
 use Rattle.panel.proofs.Bits.{bits-up, bits-same, bits-small}
 use Rattle.panel.proofs.side_bytes.bits_of.Statement.{statement}

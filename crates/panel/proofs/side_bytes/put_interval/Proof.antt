@@ -5,7 +5,7 @@ use Prim.Native.Nat.{_+_}
 use native.Mathlib.Omega.{arith}
 use lib.IntN.{ℤ}
 use borrow.Author.Needs.{needs}
-use Rattle.curve.proofs.Machine.{told}
+use Rattle.rational.proofs.Machine.{told}
 use Rattle.columns.specs.Line.{placed}
 use Rattle.columns.proofs.Placed.{placed-then}
 use Rattle.panel.specs.Panel.{sideBytes, intervalBytes}

@@ -8,7 +8,7 @@ use native.Mathlib.Omega.{arith}
 use lib.ListN.{length-set}
 use lib.Seq.{sets-eq}
 use borrow.Author.Needs.{needs}
-use Rattle.curve.proofs.Machine.{back}
+use Rattle.rational.proofs.Machine.{back}
 use Rattle.columns.specs.Line.{placed}
 use Rattle.panel.specs.Panel.{bitsOf, sideBytes}
 use Rattle.panel.proofs.side_bytes.put_side.Statement.{statement}

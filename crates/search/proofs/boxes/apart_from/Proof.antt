@@ -2,7 +2,7 @@
 -- Assumes nothing.
 use mathlib.Core.Path.{sym, _∙_}
 use borrow.Author.Needs.{needs}
-use Rattle.curve.proofs.Machine.{or-yes, or-no}
+use Rattle.rational.proofs.Machine.{or-yes, or-no}
 use Rattle.search.specs.Box.{apartFrom}
 use Rattle.search.proofs.boxes.apart_from.Statement.{statement}
 use Rattle.search.proofs.boxes.apart_from.Tie as tie

@@ -3,7 +3,7 @@
 use mathlib.Core.Path.{ap₂, _∙_, sym}
 use borrow.Author.Needs.{needs}
 use lib.Signed.{ltZ}
-use Rattle.curve.proofs.Machine.{told, and-yes, and-no}
+use Rattle.rational.proofs.Machine.{told, and-yes, and-no}
 use Rattle.search.specs.Box.{areLimits}
 use Rattle.search.proofs.boxes.are_limits.Statement.{statement}
 use Rattle.search.proofs.boxes.are_limits.Tie as tie

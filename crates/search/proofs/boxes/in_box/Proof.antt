@@ -2,7 +2,7 @@
 -- Assumes nothing.
 use mathlib.Core.Path.{sym, _∙_}
 use borrow.Author.Needs.{needs}
-use Rattle.curve.proofs.Machine.{and-yes, and-no}
+use Rattle.rational.proofs.Machine.{and-yes, and-no}
 use Rattle.search.specs.Box.{inBox}
 use Rattle.search.proofs.boxes.in_box.Statement.{statement}
 use Rattle.search.proofs.boxes.in_box.Tie as tie

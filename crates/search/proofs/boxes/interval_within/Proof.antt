@@ -2,7 +2,7 @@
 -- Assumes nothing.
 use mathlib.Core.Path.{ap₂, _∙_, sym}
 use lib.Signed.{leZ, ltZ}
-use Rattle.curve.proofs.Machine.{told, and-yes, and-no}
+use Rattle.rational.proofs.Machine.{told, and-yes, and-no}
 use Rattle.search.specs.Box.{within}
 use Rattle.search.proofs.boxes.interval_within.Statement.{statement}
 use Rattle.search.proofs.boxes.interval_within.Tie as tie

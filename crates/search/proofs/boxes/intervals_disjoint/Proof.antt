@@ -2,7 +2,7 @@
 -- Assumes nothing.
 use mathlib.Core.Path.{ap₂, _∙_, sym}
 use lib.Signed.{leZ, ltZ}
-use Rattle.curve.proofs.Machine.{told, or-yes, or-no}
+use Rattle.rational.proofs.Machine.{told, or-yes, or-no}
 use Rattle.search.specs.Box.{disjoint}
 use Rattle.search.proofs.boxes.intervals_disjoint.Statement.{statement}
 use Rattle.search.proofs.boxes.intervals_disjoint.Tie as tie

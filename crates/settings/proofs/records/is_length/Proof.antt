@@ -1,7 +1,7 @@
 -- `is_length` meets its contract: the two tests are the definition's.
 -- Assumes nothing.
 use borrow.Author.Tests.{le-leb, lt-leb}
-use Rattle.curve.proofs.Machine.{and-yes, and-no}
+use Rattle.rational.proofs.Machine.{and-yes, and-no}
 use Rattle.settings.proofs.records.is_length.Statement.{statement}
 use Rattle.settings.proofs.records.is_length.Tie as tie
 

@@ -11,14 +11,12 @@ use lib.Dec.{ltb, eqb}
 use lib.IntN.{ℤ, pos, negℤ, _-ℤ_}
 use mir.Syntax.{w32}
 use mir.Val.{SFits}
-use Rattle.rational.specs.Rounding.{quotient}
+use Rattle.rational.specs.Rounding.{roundingOf, quotient}
 use Rattle.rational.proofs.Order.{pos-mono, pos-reflects, ≤ℤ-trans, ≤ℤ-reflexive, +ℤ-mono-right}
 use Rattle.rational.proofs.Quotient.{quotient-least, natural-down}
 use Rattle.bernstein.proofs.WholeSum.{power-positive}
-use Rattle.curve.specs.Inner.{roundingOf}
-use Rattle.curve.proofs.Estimate.{rounded-up, reaches}
-use Rattle.curve.proofs.Machine.{back, signed, bit-small}
-use Rattle.curve.proofs.Sides.{within-fits}
+use Rattle.rational.proofs.Estimate.{rounded-up, reaches}
+use Rattle.rational.proofs.Machine.{back, signed, bit-small, within-fits}
 use Rattle.sixteenths.proofs.Powers.{shift-power, shifted-one, power-most}
 use Rattle.sixteenths.proofs.rounding.divided.Statement.{statement}
 use Rattle.sixteenths.proofs.rounding.divided.Tie as tie

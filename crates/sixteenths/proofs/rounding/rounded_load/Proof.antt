@@ -7,7 +7,7 @@ use lib.IntN.{pos, _-ℤ_}
 use Rattle.rational.specs.Rounding.{down, up, quotient}
 use Rattle.curve.specs.Limits.{maxSide}
 use Rattle.curve.specs.Rect.{resistance, reactance}
-use Rattle.curve.proofs.Machine.{told}
+use Rattle.rational.proofs.Machine.{told}
 use Rattle.sixteenths.specs.Weights.{sixteenths}
 use Rattle.sixteenths.specs.Inner.{sumAt}
 use Rattle.sixteenths.proofs.Reading.{sides}

@@ -2,7 +2,7 @@
 -- Assumes nothing.
 use mathlib.Core.Path.{sym, _∙_}
 use borrow.Author.Needs.{needs}
-use Rattle.curve.proofs.Machine.{and-yes, and-no}
+use Rattle.rational.proofs.Machine.{and-yes, and-no}
 use Rattle.sixteenths.proofs.sums.has_weights.Statement.{statement}
 use Rattle.sixteenths.proofs.sums.has_weights.Tie as tie
 

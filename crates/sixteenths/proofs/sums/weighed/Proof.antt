@@ -7,7 +7,7 @@ use native.Mathlib.Omega.{arith}
 use lib.IntN.{ℤ, pos, _+ℤ_}
 use mir.Syntax.{w32}
 use mir.Val.{toZ, ofZ}
-use Rattle.curve.proofs.Machine.{signed}
+use Rattle.rational.proofs.Machine.{signed}
 use Rattle.curve.proofs.Sides.{side-back}
 use Rattle.sixteenths.specs.Inner.{lifted}
 use Rattle.sixteenths.proofs.Lifted.{lifted-is, lifted-most}

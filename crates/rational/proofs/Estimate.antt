@@ -13,10 +13,9 @@ use lib.Dec.{ltb, eqb, eqb·suc-zero}
 use lib.IntN.{ℤ, pos, negsuc, natAbs, _+ℤ_, _-ℤ_}
 use lib.Signed.{mag, ltZ}
 use mir.Val.{boolByte}
-use Rattle.rational.specs.Rounding.{up, quotient, divisible}
+use Rattle.rational.specs.Rounding.{up, roundingOf, quotient, divisible}
 use Rattle.rational.proofs.Truth.{same-truth}
 use Rattle.rational.proofs.Quotient.{natural-down, natural-up}
-use Rattle.curve.specs.Inner.{roundingOf}
 
 -- ---- the estimate
 

@@ -5,12 +5,13 @@ use mathlib.Core.Bool.{Bool, true, false, _&&_, _||_}
 use Prim.Native.Nat.{ℕ, suc, _-_, _≤_, _<_, _^_}
 use native.Mathlib.Omega.{arith}
 use borrow.Author.Tests.{ne-eqb}
-use lib.Dec.{eqb, eqb·suc-zero}
+use lib.Dec.{eqb, eqb·suc-zero, leb→le}
 use lib.IntN.{ℤ, pos, negsuc, natAbs}
-use lib.Signed.{mag}
+use lib.Signed.{mag, _≤ℤ_}
 use mir.Syntax.{w32, w64}
 use mir.Val.{SFits, toZ, ofZ, hbits, boolByte}
 use mir.ValLaws.{toZ-ofZ}
+use Rattle.rational.proofs.Order.{pos-reflects}
 
 -- an i32 is what its bits say
 pub back : {z : ℤ} → SFits w32 z → toZ w32 (ofZ w32 z) ≡ z
@@ -58,3 +59,12 @@ or-yes a b e = e ∙ ap (λ (x : Bool). x || b) (sym e)
 
 pub or-no : {a b : Bool} → a ≡ false → b ≡ (a || b)
 or-no {a} {b} e = ap (λ (x : Bool). x || b) (sym e)
+
+-- a number between two small ones fits an i32
+pub within-fits : (m : ℕ) (z : ℤ) → m < 2147483647 → negsuc m ≤ℤ z → z ≤ℤ pos (suc m) → SFits w32 z
+within-fits m (pos n) small from to = let g = pos-reflects to in record { sfits = omega arith }
+within-fits m (negsuc n) small from to = let g = leb→le n m (from .le) in record { sfits = omega arith }
+
+-- what fits an i32 fits an i64
+pub wide : {z : ℤ} → SFits w32 z → SFits w64 z
+wide f = let g = f .sfits in record { sfits = omega arith }
