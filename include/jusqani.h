@@ -19,27 +19,7 @@
  * that is handed over as a uint16_t to its low 16 bits without a word.
  *
  * A call that answers a uint64_t answers 0 on success. Any other answer is a refusal: JUSQANI_NUMBER(answer) says what
- * was refused and JUSQANI_PLACE(answer) where. These are all the refusals; the place is 0 unless said:
- *
- *    1  the degree is not 1 to 8
- *    2  a side is out of range (16,384 ohms either way); place: the first such rectangle
- *    3  a low side is above its high side; place: the first such rectangle
- *    4  den is not 1 to 65,536
- *    5  num is above den
- *    6  the degree is 8 and cannot be raised
- *    7  a box side is out of range, or a low side is not below its high side; place: in a list of settings the first
- *       such record's index
- *    8  depth is above 12
- *    9  budget is not 1 to 8,191
- *   10  the card has fewer than 11 bytes, or not the length for its degree; place: its length, 2^32 - 1 if longer
- *   11  a column is malformed, or a line does not end with byte 10; place: the offset of the column or the line end
- *   12  a buffer for the result is too short; place: the length that is needed
- *   13  a measured number is not finite, a load is beyond 16,384 ohms either way, or a spread is not 0 to 16,384 ohms;
- *       place: 0 the resistance, 1 the reactance, 2 the spread
- *   14  with the spread a side is out of range (16,384 ohms either way); place: 0 the resistance, 1 the reactance
- *   15  j is above 16
- *   16  the list of settings is empty or longer than 64; place: its length, 2^32 - 1 if longer
- *   17  the sum of steps would pass 65,535
+ * was refused and JUSQANI_PLACE(answer) where. JUSQANI_REFUSALS below lists all of them.
  *
  * A call tries them in the order in which its paragraph lists them, 12 last. A refused call changes no buffer. A call
  * that is not refused stores its result in front of each buffer that it is lent for it, and what lies past the result
@@ -67,6 +47,35 @@ extern "C" {
 /* A refusal's number and its place, off an answer. */
 #define JUSQANI_NUMBER(answer) ((uint32_t)((answer) & 0xffffffffu))
 #define JUSQANI_PLACE(answer) ((uint32_t)((answer) >> 32))
+
+/*
+ * All refusals, X(number, name, words) for each. A place is 0 unless a comment says what it tells. The words are for
+ * whoever reads a message, and JUSQANI_REFUSED_DEGREE and so on are the numbers by their names.
+ */
+/* clang-format off */
+#define JUSQANI_REFUSALS(X) \
+    X(1, DEGREE, "the degree is not 1 to 8") \
+    X(2, SIDE, "a side is out of range (16,384 ohms either way)") /* the first such rectangle */ \
+    X(3, ORDER, "a low side is above its high side") /* the first such rectangle */ \
+    X(4, DEN, "den is not 1 to 65,536") \
+    X(5, NUM, "num is above den") \
+    X(6, HIGHEST, "the degree is 8 and cannot be raised") \
+    X(7, BOX, "a box side is out of range, or a low side is not below its high side") /* of a list the first such record's index */ \
+    X(8, DEPTH, "depth is above 12") \
+    X(9, BUDGET, "budget is not 1 to 8,191") \
+    X(10, LENGTH, "the card has fewer than 11 bytes, or not the length for its degree") /* its length, 2^32 - 1 if longer */ \
+    X(11, TEXT, "a column is malformed, or a line does not end with byte 10") /* the offset of the column or the line end */ \
+    X(12, ROOM, "a buffer for the result is too short") /* the length that is needed */ \
+    X(13, MEASURED, "a measured number is not finite, a load is beyond 16,384 ohms either way, or a spread is not 0 to 16,384 ohms") /* 0 the resistance, 1 the reactance, 2 the spread */ \
+    X(14, SPREAD, "with the spread a side is out of range (16,384 ohms either way)") /* 0 the resistance, 1 the reactance */ \
+    X(15, SIXTEENTH, "j is above 16") \
+    X(16, LIST, "the list of settings is empty or longer than 64") /* its length, 2^32 - 1 if longer */ \
+    X(17, SUM, "the sum of steps would pass 65,535")
+/* clang-format on */
+
+#define JUSQANI_REFUSED(number, name, words) JUSQANI_REFUSED_##name = number,
+enum jusqani_refusal { JUSQANI_REFUSALS(JUSQANI_REFUSED) };
+#undef JUSQANI_REFUSED
 
 /* The numbers of a rectangle, of a curve of degree n, of a verdict and of a choice; the bytes of the card of a curve of
  * degree n; the most records of a list of settings. */

@@ -32,24 +32,10 @@ size_t read_input(uint8_t card[MAX_CARD])
 const char *meaning(uint32_t number)
 {
     switch (number) {
-    case 1: return "the degree is not 1 to 8";
-    case 2: return "a side is out of range (16,384 ohms either way)";
-    case 3: return "a low side is above its high side";
-    case 4: return "den is not 1 to 65,536";
-    case 5: return "num is above den";
-    case 7: return "a box side is out of range, or a low side is not below its high side";
-    case 8: return "depth is above 12";
-    case 9: return "budget is not 1 to 8,191";
-    case 10: return "the card has fewer than 11 bytes, or not the length for its degree";
-    case 11: return "a column is malformed, or a line does not end with byte 10";
-    case 12: return "a buffer for the result is too short";
-    case 13: return "a measured number is not finite, a load is beyond 16,384 ohms either way, or a spread is not 0 to "
-                    "16,384 ohms";
-    case 14: return "with the spread a side is out of range (16,384 ohms either way)";
-    case 15: return "j is above 16";
-    case 16: return "the list of settings is empty or longer than 64";
-    case 17: return "the sum of steps would pass 65,535";
-    default: return "not a refusal of the calls that are used here";
+#define MEANING(number, name, words) \
+    case JUSQANI_REFUSED_##name: return words;
+        JUSQANI_REFUSALS(MEANING)
+    default: return "not a refusal of the library";
     }
 }
 

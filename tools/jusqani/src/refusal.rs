@@ -3,6 +3,8 @@
 use std::error::Error;
 use std::fmt;
 
+const HEADER: &str = include_str!("../../../include/jusqani.h");
+
 /// A refused call: what was refused, and where.
 #[derive(Clone, Copy, PartialEq, Eq, Debug)]
 pub struct Refusal {
@@ -11,31 +13,14 @@ pub struct Refusal {
 }
 
 impl Refusal {
-    /// The header's words for the number.
+    /// The header's words for the number, from its table of refusals.
     pub fn meaning(&self) -> &'static str {
-        match self.number {
-            1 => "the degree is not 1 to 8",
-            2 => "a side is out of range (16,384 ohms either way)",
-            3 => "a low side is above its high side",
-            4 => "den is not 1 to 65,536",
-            5 => "num is above den",
-            6 => "the degree is 8 and cannot be raised",
-            7 => "a box side is out of range, or a low side is not below its high side",
-            8 => "depth is above 12",
-            9 => "budget is not 1 to 8,191",
-            10 => "the card has fewer than 11 bytes, or not the length for its degree",
-            11 => "a column is malformed, or a line does not end with byte 10",
-            12 => "a buffer for the result is too short",
-            13 => {
-                "a measured number is not finite, a load is beyond 16,384 ohms either way, \
-                 or a spread is not 0 to 16,384 ohms"
-            }
-            14 => "with the spread a side is out of range (16,384 ohms either way)",
-            15 => "j is above 16",
-            16 => "the list of settings is empty or longer than 64",
-            17 => "the sum of steps would pass 65,535",
-            _ => "not a refusal of this library",
-        }
+        let row = format!("X({}, ", self.number);
+        HEADER
+            .lines()
+            .find(|line| line.trim_start().starts_with(&row))
+            .and_then(|line| line.split('"').nth(1))
+            .unwrap_or("not a refusal of this library")
     }
 
     /// A call's answer: 0 is success, any other is a refusal's number with its place above it.
