@@ -11,12 +11,13 @@
  * sum, then its sides; so `curve[0]`, `curve[1]`, `curve + 2` and JUSQANI_CURVE_LENGTH(n) - 2 hand it to the next call.
  *
  * The sum of steps, 0 to 65,535, tells how far the roundings may have moved a curve's sides. Reading a card sets it to
- * 0; a cut puts the curve's sum plus its degree in both pieces; a raising adds 1. For any curve reached from a card by
- * our cuts and raisings, no side is farther out than the same steps without rounding give by more than that sum, and
- * none lies short. A card is written without the sum: a piece that is written and read again is equal but for its sum,
- * which is 0, and counts from its own rectangles. A curve of the caller's own rectangles has the sum 0. A side that
- * jusqani_evaluate gives lies no more steps than the sum plus the degree beyond the exact one. C cuts a larger number
- * that is handed over as a uint16_t to its low 16 bits without a word.
+ * 0, and a curve of the caller's own rectangles begins with 0; a cut puts the curve's sum plus its degree in both
+ * pieces; a raising adds 1. For any curve reached from a curve with the sum 0 by our cuts and raisings, no side is
+ * farther out than the same steps without rounding give by more than that sum, and none lies short; and no side that
+ * jusqani_evaluate or jusqani_evaluate_sixteenths then gives lies farther out than the exact side of the first curve by
+ * more steps than the sum plus the degree, and none lies short. A card is written without the sum: a piece that is
+ * written and read again is equal but for its sum, which is 0, and counts from its own rectangles. C cuts a larger
+ * number that is handed over as a uint16_t to its low 16 bits without a word.
  *
  * A call that answers a uint64_t answers 0 on success. Any other answer is a refusal: JUSQANI_NUMBER(answer) says what
  * was refused and JUSQANI_PLACE(answer) where. JUSQANI_REFUSALS below lists all of them.

@@ -1,2 +1,3 @@
--- The proof of the claim.
+-- The proof of the claim, and of its corollary for cards.
 pub mod SumIsTrue
+pub mod Card

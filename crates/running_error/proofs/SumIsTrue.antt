@@ -1,35 +1,39 @@
--- The record's sum of steps is true: along every list of calls the sides of the present curve lie within the ledger's sum of the exact ones, and the record's sum is the ledger's.
+-- The record's sum of steps is true: along every list of calls the sides of the present curve lie within the ledger's sum of the exact ones, each accepted reading's within its sum and degree, and both are the record's.
 -- Assumes nothing.
-use mathlib.Core.Path.{_≡_, refl, sym, ap, _∙_, subst, subst₂}
+use mathlib.Core.Path.{_≡_, refl, sym, ap, ap₂, _∙_, subst, subst₂}
 use mathlib.Core.Bool.{Bool, true, false, cond}
 use mathlib.Core.List.{List, [], _∷_}
 use Prim.Native.Nat.{ℕ, _+_, _*_, _-_, _≤_}
 use native.Mathlib.Nat.{zero-add, mul-zero}
 use lib.Dec.{T, eqb, eqb→eq}
-use Rattle.rational.specs.Rounding.{Rounding}
+use lib.Signed.{_≤ℤ_}
+use Rattle.rational.specs.Rounding.{Rounding, down, up}
+use Rattle.rational.specs.Fraction.{Frac, whole}
 use Rattle.rational.proofs.Rational.{ℚ, rat, embed}
+use Rattle.rational.proofs.RationalOrder.{≤ᶠ-of, ≤ℚ-refl, embed-mono}
 use Rattle.bernstein.proofs.Rounded.{Side, Near, error}
 use Rattle.curve.specs.declared.Curve.{Curve}
 use Rattle.curve.specs.declared.Elevation.{Elevation}
+use Rattle.curve.specs.declared.Rect.{Rect}
 use Rattle.curve.specs.declared.Refusal.{Refusal}
 use Rattle.curve.specs.declared.Subdivision.{Subdivision}
-use Rattle.curve.specs.Rect.{Coordinate, side}
+use Rattle.curve.specs.Rect.{Coordinate, side, Bounded}
 use Rattle.curve.specs.Curve.{point, leftOf, rightOf, tableExact, elevatedOf}
 use Rattle.curve.specs.Refusals.{none, Accepted}
 use Rattle.curve.specs.Inner.{Factors}
-use Rattle.curve.proofs.Accepted.{parameter-facts}
+use Rattle.curve.proofs.Accepted.{accepted-facts, parameter-facts}
 use Rattle.curve.proofs.Answers.{subdivision, subdivided-accepted, elevated-accepted}
 use Rattle.curve.proofs.Pieces.{left-degree, right-degree, elevated-degree}
-use Rattle.card_text.specs.Reading.{readCard}
-use Rattle.card_text.proofs.Promises.{read-is-written, read-sum}
-use Rattle.ledger.specs.Ordinary.{Ordinary}
+use Rattle.ledger.specs.Ordinary.{Ordinary, InsideOf, exactSide}
 use Rattle.ledger.specs.Ledger.{Ledger, Piece, Call, evaluate, evaluateSixteenths, subdivide, elevate, left, right, kept as keeps, opened, parameter, subdividedSum, refused, entered, after, answerOf, leaves}
 use Rattle.ledger.specs.Exact.{edge, part}
+use Rattle.ledger.specs.Claim as Claimed
+use Rattle.ledger.specs.Claim.{Sound}
 use Rattle.ledger.proofs.Stretch.{Stretch}
 use Rattle.ledger.proofs.Steps.{left-stretch, right-stretch, elevated-stretch, left-exact, right-exact, raised-exact}
 use Rattle.ledger.proofs.Evaluation.{inward, inward-none, near-bounded, outward, outward-one, near-itself, near-claimed}
-use Rattle.ledger.proofs.Demand.{Kept, opened-kept, same-refusal, after-kept, subdivision-allowed, elevation-allowed}
-use Rattle.running_error.specs.Claim.{exactAnswer, exactlyLeaves, TrueSum, Along, SumIsTrue}
+use Rattle.ledger.proofs.Demand.{Kept, opened-kept, same-refusal, evaluation-sound, after-kept, subdivision-allowed, elevation-allowed}
+use Rattle.running_error.specs.Claim.{exactAnswer, exactlyLeaves, TrueSum, TrueReading, AtCall, Along, SumIsTrue}
 
 -- every side of a curve lies within m roundings of the exact one, on either side of it
 record Tracked (now : Curve) (m : ℕ) (exact : Rounding → Ordinary) : Type 0 where
@@ -60,6 +64,17 @@ followed now next m exact moved start width steps stretch t degrees same = recor
 entered-sum : (l : Ledger) (num den : ℕ) (piece : Piece) → entered l (subdivide num den piece) .sum ≡ subdividedSum l
 entered-sum l num den left = refl
 entered-sum l num den right = refl
+
+-- the low sides of an accepted curve lie inside it, and so do its high sides
+edge-inside : (c : Curve) → Accepted c → (r : Rounding) → InsideOf (edge r c) c
+unfolding embed
+edge-inside c ok r = record { degrees = refl; controls = λ x way k h. go r way (point c k) x (accepted-facts c ok .ordered k h x) }
+  where
+    go : (r way : Rounding) (p : Rect) (x : Coordinate) → side x down p ≤ℤ side x up p → Bounded way (whole (side x r p)) (side x way p)
+    go down down p x h = ≤ᶠ-of (whole (side x down p)) (whole (side x down p)) (≤ℚ-refl (embed (side x down p)))
+    go down up p x h = ≤ᶠ-of (whole (side x down p)) (whole (side x up p)) (embed-mono h)
+    go up down p x h = ≤ᶠ-of (whole (side x down p)) (whole (side x up p)) (embed-mono h)
+    go up up p x h = ≤ᶠ-of (whole (side x up p)) (whole (side x up p)) (≤ℚ-refl (embed (side x up p)))
 
 module _ (c : Curve) (l : Ledger) (now : Curve) (kept : Kept c l now) (exact : Rounding → Ordinary) (t : Tracked now (l .sum) exact) where
   -- either piece of a cut
@@ -101,19 +116,34 @@ module _ (c : Curve) (l : Ledger) (now : Curve) (kept : Kept c l now) (exact : R
       go true e = entered-tracked call (eqb→eq (refused l call .number) 0 (subst T (sym e) tt))
       go false e = t
 
-  -- what is claimed of a curve that the ledger was opened with no sum for
-  true-sum : l .brought ≡ 0 → TrueSum now exact l
-  true-sum zero =
-      let same : now .sum ≡ l .sum = kept .sums ∙ ap (λ (n : ℕ). n + l .sum) zero ∙ zero-add (l .sum) in
-      record {
-        degrees = t .degrees;
-        holds = λ x r k h. near-bounded r (exact r .control x k) (side x r (point now k))
-            (subst (λ (n : ℕ). Near (inward r) n (side x r (point now k)) (rat (exact r .control x k))) (inward-none r (l .sum)) (t .near x r (inward r) k h));
-        near = λ x r k h. near-claimed r (now .sum) (side x r (point now k)) (exact r .control x k)
-            (subst (λ (n : ℕ). Near (outward r) n (side x r (point now k)) (rat (exact r .control x k))) (outward-one r (l .sum) ∙ sym same) (t .near x r (outward r) k h));
-        sameSum = same;
-        sameDegree = kept .degrees;
-      }
+  -- the ledger was opened with a sum of 0, so its sum is the record's
+  module _ (zero : l .brought ≡ 0) where
+    same : now .sum ≡ l .sum
+    same = kept .sums ∙ ap (λ (n : ℕ). n + l .sum) zero ∙ zero-add (l .sum)
+
+    true-sum : TrueSum now exact l
+    true-sum = record {
+      degrees = t .degrees;
+      holds = λ x r k h. near-bounded r (exact r .control x k) (side x r (point now k))
+          (subst (λ (n : ℕ). Near (inward r) n (side x r (point now k)) (rat (exact r .control x k))) (inward-none r (l .sum)) (t .near x r (inward r) k h));
+      near = λ x r k h. near-claimed r (now .sum) (side x r (point now k)) (exact r .control x k)
+          (subst (λ (n : ℕ). Near (outward r) n (side x r (point now k)) (rat (exact r .control x k))) (outward-one r (l .sum) ∙ sym same) (t .near x r (outward r) k h));
+      sameSum = same;
+      sameDegree = kept .degrees;
+    }
+
+    -- a sound reading, with the low or the high sides as the ordinary curve
+    true-reading : (place : Frac) (load : Rect) → ((r : Rounding) → Sound c (edge r c) place (l .sum + l .degree) load) → TrueReading c now place load
+    true-reading place load sound = record {
+      holds = λ x r. sound r .holds x r;
+      near = λ x r. subst (λ (n : ℕ). Claimed.Near r n (side x r load) (exactSide c x r place)) (ap₂ _+_ (sym same) (sym (kept .degrees))) (sound r .near x r);
+    }
+
+    true-call : Accepted c → (call : Call) → AtCall c l now call
+    true-call ok (evaluate num den) = λ h. true-reading _ _ (λ r. evaluation-sound c l now kept (edge r c) (edge-inside c ok r) (evaluate num den) h)
+    true-call ok (evaluateSixteenths j) = λ h. true-reading _ _ (λ r. evaluation-sound c l now kept (edge r c) (edge-inside c ok r) (evaluateSixteenths j) h)
+    true-call ok (subdivide num den piece) = tt
+    true-call ok elevate = tt
 
 -- a ledger keeps what was brought
 entered-brought : (l : Ledger) (call : Call) → entered l call .brought ≡ l .brought
@@ -132,17 +162,15 @@ after-brought l call = go (eqb (refused l call .number) 0)
     go false = refl
 
 along :
-    (c : Curve) (calls : List Call) (l : Ledger) (now : Curve) (exact : Rounding → Ordinary) →
-    Kept c l now → Tracked now (l .sum) exact → l .brought ≡ 0 → Along now exact l calls
-along c [] l now exact kept t zero = true-sum c l now kept exact t zero
-along c (call ∷ calls) l now exact kept t zero = (
+    (c : Curve) → Accepted c → (calls : List Call) (l : Ledger) (now : Curve) (exact : Rounding → Ordinary) →
+    Kept c l now → Tracked now (l .sum) exact → l .brought ≡ 0 → Along c l now exact calls
+along c ok [] l now exact kept t zero = true-sum c l now kept exact t zero
+along c ok (call ∷ calls) l now exact kept t zero = (
   true-sum c l now kept exact t zero,
-  along c calls (after l call) (leaves now call) (λ r. exactlyLeaves now (exact r) call) (after-kept c l now kept call) (after-tracked c l now kept exact t call) (after-brought l call ∙ zero),
+  true-call c l now kept exact t zero ok call,
+  along c ok calls (after l call) (leaves now call) (λ r. exactlyLeaves now (exact r) call) (after-kept c l now kept call) (after-tracked c l now kept exact t call) (after-brought l call ∙ zero),
 )
 
 pub sum-is-true : SumIsTrue
 unfolding opened
-sum-is-true card h calls =
-    let c = readCard card .curve in
-    let ok : Accepted c = read-is-written card (ap (λ (r : Refusal). r .number) h) .accepted in
-    along c calls (opened c) c (λ r. edge r c) (opened-kept c ok) (started c) (read-sum card)
+sum-is-true c ok zero calls = along c ok calls (opened c) c (λ r. edge r c) (opened-kept c ok) (started c) zero

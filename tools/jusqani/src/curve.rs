@@ -98,9 +98,9 @@ impl From<Rect> for [i32; RECT_LENGTH] {
 /// A curve: its degree n, its sum of steps, and its rectangles 0 to n. Calls do not read the places past n,
 /// and give zero there.
 ///
-/// A card's curve has the sum 0, a cut adds the degree and a raising 1. For any curve reached from a card by
-/// these, no side is farther out than the same steps without rounding give by more than the sum, and none lies
-/// short.
+/// A card's curve has the sum 0, a cut adds the degree and a raising 1. For any curve reached by these from one
+/// with the sum 0, no side is farther out than the same steps without rounding give by more than the sum, and
+/// none lies short.
 #[derive(Clone, Copy, Debug, Default)]
 pub struct Curve {
     pub degree: u32,
