@@ -25,7 +25,7 @@ refused r = record { refusal = r; found = Refused }
 abbrev pub gives : Refusal → Rect → BridgeAnswer
 gives r p = record { refusal = r; found = Rectangle p }
 
-answered-refused : (r : Refusal) (p : Rect) → (r .number ≡ 0 → ⊥) → answered r p ≡ refused r
+pub answered-refused : (r : Refusal) (p : Rect) → (r .number ≡ 0 → ⊥) → answered r p ≡ refused r
 answered-refused r p h = rw (ne-eqb (r .number) 0 h)
 
 pub answered-gives : (r : Refusal) (p : Rect) → r .number ≡ 0 → answered r p ≡ gives r p

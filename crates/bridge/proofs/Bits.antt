@@ -11,9 +11,13 @@ use lib.Dec.{leb, eqb, lit<}
 use lib.Pow.{pow-add, pow-pos, pow-lt, pow-mono, shl-lt, split, mod-mod-pow}
 use lib.Ieee.{nan, inf, binary32, ofFields, ofBits, odd, prec, low, hid, ones}
 use lib.Ieee.Exact.{HasValue, odd-sign}
-use Rattle.bridge.specs.Inner.{sign, field, largest, unitsBy, unitsOf}
+use Rattle.bridge.specs.Inner.{field, largest, unitsBy, unitsOf}
 
 -- ---- the value of a number's bits
+
+-- the weight of the sign
+abbrev pub sign : ℕ
+sign = 0x80000000
 
 -- of its fields, unless they are those of an infinity or of not a number
 fields-value : (s : Bool) (e t : ℕ) → e < ones binary32 → HasValue (ofFields binary32 s e t) s (unitsBy e t) (2 ^ low binary32)

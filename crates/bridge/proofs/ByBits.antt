@@ -21,9 +21,9 @@ use Rattle.curve.specs.Limits.{stepsPerOhm}
 use Rattle.curve.specs.Rect.{end}
 use Rattle.curve.proofs.Tests.{true-of}
 use Rattle.bridge.specs.Value.{signed, maxOhms, finite, stepAt, stepsAbout, isFrom, isLoad, isSpread}
-use Rattle.bridge.specs.Inner.{sign, field, largest, unitsOf, sizeAbout}
+use Rattle.bridge.specs.Inner.{field, largest, unitsOf, sizeAbout}
 use Rattle.bridge.proofs.Exact.{signed-times, from-value, step-value}
-use Rattle.bridge.proofs.Bits.{bits-value, units-limit, no-units, units-zero}
+use Rattle.bridge.proofs.Bits.{sign, bits-value, units-limit, no-units, units-zero}
 use Rattle.bridge.proofs.Steps.{size-within, signed-within}
 
 -- ---- what is not finite

@@ -18,18 +18,17 @@ use Rattle.rational.proofs.Rational.{mul-equal}
 use Rattle.rational.proofs.Quotient.{quotient-equal}
 use Rattle.curve.specs.Limits.{stepsPerOhm}
 use Rattle.bridge.specs.Value.{signed, finite, ohms, steps, stepAt, isFrom}
-use Rattle.bridge.specs.Promises.{ExactValue}
 
 -- a whole number by sign and size, times a natural number
 pub signed-times : (s : Bool) (a d : ℕ) → signed s a *ℤ pos d ≡ signed s (a * d)
 signed-times false a d = refl
 signed-times true a d = neg-mul (pos a) (pos d)
 
-pub exact-value : ExactValue
+pub value-of : (x : Float) (s : Bool) (a d : ℕ) (h : 0 < d) → HasValue x s a d → (finite x ≡ true) × Equal (ohms x) (over d h (signed s a))
 unfolding finite ohms
-exact-value nan s a d h v = absurd v
-exact-value (inf t) s a d h v = absurd v
-exact-value (fin t m e) s a d h (same, size) = (
+value-of nan s a d h v = absurd v
+value-of (inf t) s a d h v = absurd v
+value-of (fin t m e) s a d h (same, size) = (
   refl,
   record { crosswise = signed-times t (m * Ieee.up e) d ∙ ap₂ signed same size ∙ sym (signed-times s a (Ieee.down e)) },
 )
@@ -43,12 +42,12 @@ module _ (x : Float) (s : Bool) (a d : ℕ) (positive : 0 < d) (v : HasValue x s
 
   equal-value : Equal (ohms x) value
   unfolding value
-  equal-value = exact-value x s a d positive v .1
+  equal-value = value-of x s a d positive v .1
 
   -- the tests compare the value, multiplied out
   pub from-value : (least most : ℤ) → isFrom least most x ≡ (leZ (least *ℤ pos d) (signed s a) && leZ (signed s a) (most *ℤ pos d))
   unfolding isFrom whole value
-  from-value least most = rw (exact-value x s a d positive v .0) (ap₂ _&&_ from to)
+  from-value least most = rw (value-of x s a d positive v .0) (ap₂ _&&_ from to)
     where
       from : leZ (least *ℤ pos (ohms x .lower)) (ohms x .upper) ≡ leZ (least *ℤ pos d) (signed s a)
       from =

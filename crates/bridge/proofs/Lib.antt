@@ -5,6 +5,3 @@ pub mod ByBits
 pub mod Sizes
 pub mod Answers
 pub mod ZeroSpread
-pub mod Spread
-pub mod Promises
-pub mod Numbers

@@ -12,8 +12,12 @@ use lib.IntN.{pos}
 use mir.Val.{boolByte}
 use Rattle.rational.specs.Rounding.{Rounding, down, up, quotient, floor, ceiling}
 use Rattle.rational.proofs.Quotient.{quotient-equal}
-use Rattle.bridge.specs.Inner.{field, largest, step, unitsBy, unitsOf}
+use Rattle.bridge.specs.Inner.{field, largest, unitsBy, unitsOf}
 use Rattle.bridge.proofs.Bits.{units-below, no-units, units-zero}
+
+-- the bits of one step
+abbrev pub step : ℕ
+step = 0x3a800000
 
 -- a natural number rounded up: one taken off and added again
 pub up-less-one : (n d : ℕ) → quotient up (pos (suc n)) d ≡ pos (suc (n / d))

@@ -19,7 +19,7 @@ use Rattle.curve.proofs.Refused.{or-first, by-number, settled-or, settled-unles
 use Rattle.curve.proofs.Accepted.{side-range}
 use Rattle.bridge.specs.Value.{finite, ohms, steps, stepAt, stepsAbout, isFrom, isLoad, isSpread}
 use Rattle.bridge.specs.Bridge.{widened, loadRect, spreadRect, loadRefusal, numberRefusal, sideRefusal, spreadRefusal, answered, enclosed}
-use Rattle.bridge.specs.Promises.{ZeroSpread}
+use Rattle.bridge.specs.declared.Measurement.the-variants.{Load, LoadWithSpread}
 use Rattle.bridge.proofs.Steps.{load-side}
 use Rattle.bridge.proofs.Answers.{loads-passed}
 
@@ -66,6 +66,6 @@ module _ (r x : Float) where
       accepted : loadRefusal r x .number ≡ 0 → (loadRefusal r x orElse sideRefusal (loadRect r x)) ≡ loadRefusal r x
       accepted h = let (s, t) = loads-passed r x h in ap (λ (a : Refusal). loadRefusal r x orElse a) (load-sides r x s t) ∙ settled
 
-pub zero-spread : ZeroSpread
+pub same-answer : (r x : Float) → enclosed (LoadWithSpread r x (fin false 0 (pos 0))) ≡ enclosed (Load r x)
 unfolding enclosed zeroFloat
-zero-spread r x = ap₂ answered (same-refusal r x) (same-rect r x)
+same-answer r x = ap₂ answered (same-refusal r x) (same-rect r x)

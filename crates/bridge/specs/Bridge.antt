@@ -14,7 +14,7 @@ use Rattle.curve.specs.Refusals.{none, _orElse_, unlessAt}
 use Rattle.bridge.specs.declared.Measurement.{Measurement}
 use Rattle.bridge.specs.declared.Measurement.the-variants.{NoCarrier, Load, LoadWithSpread}
 use Rattle.bridge.specs.declared.Found.{Found}
-use Rattle.bridge.specs.declared.Found.the-variants.{Refused, Nothing, Rectangle}
+use Rattle.bridge.specs.declared.Found.the-variants.{Refused, NoCarrier as CarrierAbsent, Rectangle}
 use Rattle.bridge.specs.declared.BridgeAnswer.{BridgeAnswer}
 use Rattle.bridge.specs.Value.{stepAt, stepsAbout, isLoad, isSpread}
 
@@ -60,7 +60,7 @@ answered r p = cond (eqb (r .number) 0) (record { refusal = r; found = Rectangle
 
 -- the three forms: no carrier, a plain load, a load with a spread
 unfoldable pub enclosed : Measurement → BridgeAnswer
-enclosed NoCarrier = record { refusal = none; found = Nothing }
+enclosed NoCarrier = record { refusal = none; found = CarrierAbsent }
 enclosed (Load r x) = answered (loadRefusal r x) (loadRect r x)
 enclosed (LoadWithSpread r x spread) = answered (spreadRefusal r x spread) (spreadRect r x spread)
 
@@ -80,5 +80,5 @@ rectangle = 2
 -- no carrier has no rectangle, and counts as zeros there; a refused call gives zeros
 abbrev pub reported : Found → Report
 reported Refused = record { number = 0; rect = zeroRect }
-reported Nothing = record { number = noCarrier; rect = zeroRect }
+reported CarrierAbsent = record { number = noCarrier; rect = zeroRect }
 reported (Rectangle p) = record { number = rectangle; rect = p }

@@ -15,21 +15,15 @@ withSpread NoCarrier = NoCarrier
 withSpread (Load r x) = LoadWithSpread r x (fin false 0 (pos 0))
 withSpread (LoadWithSpread r x spread) = LoadWithSpread r x spread
 
--- ---- a number by its bits: the sign, the exponent's field, and the digits below the leading one
+-- ---- a number by its bits without the sign: the exponent's field, and the digits below the leading one
 
--- the weights of the sign and of the exponent's field
-abbrev pub sign : ℕ
-sign = 0x80000000
-
+-- the weight of the exponent's field
 abbrev pub field : ℕ
 field = 0x800000
 
--- the bits of 16,384 ohms and of one step
+-- the bits of 16,384 ohms
 abbrev pub largest : ℕ
 largest = 0x46800000
-
-abbrev pub step : ℕ
-step = 0x3a800000
 
 -- the size of a finite number in units of the smallest one, 2^-149 ohm, by its exponent's field and its digits
 unfoldable pub unitsBy : ℕ → ℕ → ℕ

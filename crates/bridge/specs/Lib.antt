@@ -1,4 +1,3 @@
 pub mod Value
 pub mod Bridge
 pub mod Inner
-pub mod Promises

@@ -29,10 +29,10 @@ pub enum Measurement {
     },
 }
 
-// What a measurement encloses: nothing where there is no carrier, or a rectangle. A refused one has nothing to tell.
+// What a measurement encloses: a rectangle, or none where there is no carrier. A refused one has nothing to tell.
 pub enum Found {
     Refused,
-    Nothing,
+    NoCarrier,
     Rectangle(Rect),
 }
 
@@ -104,7 +104,7 @@ pub fn enclose(measurement: Measurement) -> BridgeAnswer
                 number: 0,
                 place: 0,
             },
-            found: Found::Nothing,
+            found: Found::NoCarrier,
         },
     }
 }

@@ -19,7 +19,7 @@ use Rattle.settings.specs.Choice as choice
 use Rattle.bridge.specs.declared.Measurement.{Measurement}
 use Rattle.bridge.specs.declared.Measurement.the-variants.{NoCarrier, Load, LoadWithSpread}
 use Rattle.bridge.specs.declared.Found.{Found}
-use Rattle.bridge.specs.declared.Found.the-variants.{Refused, Nothing, Rectangle}
+use Rattle.bridge.specs.declared.Found.the-variants.{Refused, NoCarrier as CarrierAbsent, Rectangle}
 
 -- ---- what a call is given
 
@@ -82,5 +82,5 @@ choiceNumbers x = choice.reported x .number ∷ choice.reported x .index ∷ cho
 -- what a measurement encloses: a rectangle's sides, or nothing
 abbrev pub foundNumbers : Found → List ℤ
 foundNumbers Refused = []
-foundNumbers Nothing = []
+foundNumbers CarrierAbsent = []
 foundNumbers (Rectangle p) = sides p

@@ -207,7 +207,7 @@ pub fn found_length(found: Found) -> usize
 {
     match found {
         Found::Refused => 0,
-        Found::Nothing => 0,
+        Found::NoCarrier => 0,
         Found::Rectangle(_) => RECT_LENGTH,
     }
 }
@@ -218,7 +218,7 @@ pub fn found_number(found: Found) -> u32
 {
     match found {
         Found::Refused => 0,
-        Found::Nothing => 1,
+        Found::NoCarrier => 1,
         Found::Rectangle(_) => 2,
     }
 }
@@ -230,7 +230,7 @@ pub fn put_found(out: &mut [i32], refusal: Refusal, found: Found)
 {
     match found {
         Found::Refused => {}
-        Found::Nothing => {}
+        Found::NoCarrier => {}
         Found::Rectangle(rect) => put_rect(out, refusal, rect),
     }
 }

@@ -11,12 +11,12 @@ use borrow.Author.Needs.{needs}
 use Rattle.curve.specs.Refusals.{none}
 use Rattle.bridge.specs.declared.Measurement.{Measurement}
 use Rattle.bridge.specs.declared.Measurement.the-variants.{NoCarrier, Load, LoadWithSpread}
-use Rattle.bridge.specs.declared.Found.the-variants.{Nothing}
+use Rattle.bridge.specs.declared.Found.the-variants.{NoCarrier as CarrierAbsent}
 use Rattle.bridge.specs.declared.BridgeAnswer.{BridgeAnswer}
 use Rattle.bridge.specs.Bridge.{enclosed}
 use Rattle.bridge.specs.Inner.{withSpread}
 use Rattle.bridge.proofs.Measurement as Kind
-use Rattle.bridge.proofs.ZeroSpread.{zero-spread}
+use Rattle.bridge.proofs.ZeroSpread as ZeroSpread
 use Rattle.bridge.proofs.enclose.Statement.{statement}
 use Rattle.bridge.proofs.enclose.Tie as tie
 
@@ -28,7 +28,7 @@ neither (inr e) = omega arith
 -- a spread of zero changes no answer
 same-answer : (m : Measurement) → enclosed (withSpread m) ≡ enclosed m
 same-answer NoCarrier = refl
-same-answer (Load r x) = zero-spread r x
+same-answer (Load r x) = ZeroSpread.same-answer r x
 same-answer (LoadWithSpread r x spread) = refl
 
 returns : tie.Need-returns
@@ -40,7 +40,7 @@ returns c =
 tag : Measurement → ℕ
 tag m = Declared.tagOf Kind.the-type m
 
-no-load : (m : Measurement) → OneOf (0 ∷ 1 ∷ []) (tag (withSpread m)) → _≡_ {A = BridgeAnswer} (record { refusal = none; found = Nothing }) (enclosed m)
+no-load : (m : Measurement) → OneOf (0 ∷ 1 ∷ []) (tag (withSpread m)) → _≡_ {A = BridgeAnswer} (record { refusal = none; found = CarrierAbsent }) (enclosed m)
 unfolding enclosed tag
 no-load NoCarrier k = refl
 no-load (Load r x) k = absurd (neither k)

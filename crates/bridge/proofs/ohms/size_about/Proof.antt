@@ -13,8 +13,8 @@ use mir.Val.{toZ, boolByte}
 use borrow.Author.Needs.{needs}
 use Rattle.rational.specs.Rounding.{down, up, quotient, floor}
 use Rattle.rational.proofs.Machine.{signed}
-use Rattle.bridge.specs.Inner.{field, largest, step, unitsOf, sizeAbout}
-use Rattle.bridge.proofs.Sizes.{up-less-one, small-low, small-high, shifted}
+use Rattle.bridge.specs.Inner.{field, largest, unitsOf, sizeAbout}
+use Rattle.bridge.proofs.Sizes.{step, up-less-one, small-low, small-high, shifted}
 use Rattle.bridge.proofs.ohms.size_about.Statement.{statement}
 use Rattle.bridge.proofs.ohms.size_about.Tie as tie
 

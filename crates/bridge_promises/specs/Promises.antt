@@ -1,4 +1,4 @@
--- What is promised of a measurement's rectangle beside its equation, over the definitions that the contract cites.
+-- What is promised of a measurement's answer beside its equation, by what is reported of it: its number and its rectangle.
 -- Assumes nothing.
 use mathlib.Core.Path.{_≡_}
 use mathlib.Core.Bool.{Bool, true, false, _&&_}
@@ -10,20 +10,30 @@ use Rattle.rational.specs.Rounding.{Rounding, up}
 use Rattle.rational.specs.Fraction.{Frac, Equal, _≤ᶠ_, _+ᶠ_}
 use Rattle.rational.specs.Promises.{over}
 use Rattle.curve.specs.declared.Rect.{Rect}
-use Rattle.curve.specs.Rect.{Coordinate, resistance, reactance, side, Bounded, Inside, sidesInRange, sidesOrdered}
+use Rattle.curve.specs.Rect.{Coordinate, resistance, reactance, side, Bounded, Inside, zeroRect, sidesInRange, sidesOrdered}
+use Rattle.curve.specs.Refusals.{none}
 use Rattle.bridge.specs.declared.Measurement.{Measurement}
-use Rattle.bridge.specs.declared.Measurement.the-variants.{Load, LoadWithSpread}
-use Rattle.bridge.specs.declared.Found.the-variants.{Rectangle}
+use Rattle.bridge.specs.declared.Measurement.the-variants.{NoCarrier, Load, LoadWithSpread}
 use Rattle.bridge.specs.Value.{signed, finite, ohms, steps, stepAt}
-use Rattle.bridge.specs.Bridge.{moved, enclosed}
+use Rattle.bridge.specs.Bridge.{Report, moved, enclosed, noCarrier, rectangle, reported}
 
 -- the value of a number is its exact one, with sign s and size a / d
 abbrev pub ExactValue : Type 0
 ExactValue = (x : Float) (s : Bool) (a d : ℕ) (h : 0 < d) → HasValue x s a d → (finite x ≡ true) × Equal (ohms x) (over d h (signed s a))
 
+-- what is reported of a measurement
+abbrev pub reportOf : Measurement → Report
+reportOf m = reported (enclosed m .found)
+
 -- a measurement's rectangle
 abbrev pub Encloses : Measurement → Rect → Type 0
-Encloses m p = enclosed m .found ≡ Rectangle p
+Encloses m p = reportOf m ≡ record { number = rectangle; rect = p }
+
+-- a refused measurement reports number 0 and zeros, no carrier its own number and zeros with no refusal, and every other one a rectangle
+pub record Reports : Type 0 where
+  pub refusing : (m : Measurement) → (enclosed m .refusal .number ≡ 0 → ⊥) → reportOf m ≡ record { number = 0; rect = zeroRect }
+  pub silent : (enclosed NoCarrier .refusal ≡ none) × (reportOf NoCarrier ≡ record { number = noCarrier; rect = zeroRect })
+  pub enclosing : (m : Measurement) → enclosed m .refusal .number ≡ 0 → (m ≡ NoCarrier → ⊥) → (p : Rect) × Encloses m p
 
 -- a load's number in a coordinate
 abbrev pub numberOf : Coordinate → Float → Float → Float

@@ -17,12 +17,12 @@ use Rattle.curve.specs.declared.Rect.{Rect}
 use Rattle.curve.specs.declared.Refusal.{Refusal}
 use Rattle.curve.specs.Limits.{stepsPerOhm}
 use Rattle.curve.specs.Refusals.{_orElse_, unlessAt}
 use Rattle.bridge.specs.declared.Measurement.the-variants.{LoadWithSpread}
 use Rattle.bridge.specs.Value.{finite, ohms, steps, stepAt, stepsAbout, isFrom, isLoad, isSpread}
 use Rattle.bridge.specs.Bridge.{widened, spreadRect, loadRefusal, numberRefusal, sideRefusal, spreadRefusal, answered, enclosed}
-use Rattle.bridge.specs.Promises.{plusZero, MinusZero, NotFinite}
+use Rattle.bridge_promises.specs.Promises.{plusZero, MinusZero, NotFinite}
 use Rattle.bridge.proofs.Answers.{answered-refusal}
-use Rattle.bridge.proofs.ZeroSpread.{zero-spread}
+use Rattle.bridge.proofs.ZeroSpread.{same-answer}
 
 -- ---- minus zero
 
@@ -75,7 +75,7 @@ module _ (r x spread : Float) where
 
 pub minus-zero : MinusZero
 minus-zero r x spread =
-    (sym (zero-spread r x) ∙ spread-plus r x (fin false 0 (pos 0)) ∙ zero-spread (plusZero r) (plusZero x), spread-plus r x spread)
+    (sym (same-answer r x) ∙ spread-plus r x (fin false 0 (pos 0)) ∙ same-answer (plusZero r) (plusZero x), spread-plus r x spread)
 
 -- ---- what is not finite
 
@@ -108,6 +108,6 @@ spread-not-finite r x spread h =
 pub not-finite : NotFinite
 unfolding finite
 not-finite r x spread = (
-  (λ h. ap (λ a. a .refusal .number) (sym (zero-spread r x)) ∙ spread-not-finite r x (fin false 0 (pos 0)) (and-true (finite r && finite x) ∙ h)),
+  (λ h. ap (λ a. a .refusal .number) (sym (same-answer r x)) ∙ spread-not-finite r x (fin false 0 (pos 0)) (and-true (finite r && finite x) ∙ h)),
   spread-not-finite r x spread,
 )

@@ -18,28 +18,28 @@ use Rattle.rational.proofs.Order.{≤ℤ-trans, ≤ℤ-reflexive, ≤ℤ-certif
 use Rattle.rational.proofs.Quotient.{rounds-down, rounds-up, down-up}
 use Rattle.curve.specs.declared.Rect.{Rect}
 use Rattle.curve.specs.declared.Refusal.{Refusal}
-use Rattle.curve.specs.Rect.{Coordinate, resistance, reactance, side, Outward, Bounded, Inside, endsInRange, sidesInRange, sidesOrdered}
+use Rattle.curve.specs.Rect.{Coordinate, resistance, reactance, side, Outward, Bounded, Inside, zeroRect, endsInRange, sidesInRange, sidesOrdered}
 use Rattle.curve.proofs.Tests.{or-split, true-of}
 use Rattle.curve.proofs.Accepted.{sides-order}
+use Rattle.bridge.specs.declared.Measurement.{Measurement}
 use Rattle.bridge.specs.declared.Measurement.the-variants.{NoCarrier, Load, LoadWithSpread}
-use Rattle.bridge.specs.declared.Found.the-variants.{Refused, Rectangle}
 use Rattle.bridge.specs.Value.{steps, stepAt, stepsAbout}
-use Rattle.bridge.specs.Bridge.{moved, loadRect, spreadRect, loadRefusal, numberRefusal, sideRefusal, spreadRefusal, answered, enclosed}
-use Rattle.bridge.specs.Promises.{Encloses, numberOf, Holds, Smallest, SpreadHolds, SpreadMoves, GoodRect}
+use Rattle.bridge.specs.Bridge.{moved, loadRect, spreadRect, loadRefusal, numberRefusal, sideRefusal, spreadRefusal, answered, enclosed, Report, rectangle, reported}
+use Rattle.bridge_promises.specs.Promises.{reportOf, Encloses, Reports, numberOf, Holds, Smallest, SpreadHolds, SpreadMoves, ZeroSpread, GoodRect}
 use Rattle.bridge.proofs.Steps.{spread-steps}
-use Rattle.bridge.proofs.Answers.{answered-gives, numbers-passed, sides-passed}
-use Rattle.bridge.proofs.ZeroSpread.{zero-spread}
-use Rattle.bridge.proofs.Spread.{moved-bounds}
+use Rattle.bridge.proofs.Answers.{answered-refused, answered-gives, answered-refusal, numbers-passed, sides-passed}
+use Rattle.bridge.proofs.ZeroSpread.{same-answer}
+use Rattle.bridge_promises.proofs.Spread.{moved-bounds}
 
 -- ---- an answered rectangle
 
 -- nothing was refused, and it is the definition's
-rectangle-given : (r : Refusal) (p q : Rect) → answered r p .found ≡ Rectangle q → (r .number ≡ 0) × (p ≡ q)
+rectangle-given : (r : Refusal) (p q : Rect) → reported (answered r p .found) ≡ record { number = rectangle; rect = q } → (r .number ≡ 0) × (p ≡ q)
 rectangle-given r p q h = go (eqb (r .number) 0) refl
   where
     go : (b : Bool) → eqb (r .number) 0 ≡ b → (r .number ≡ 0) × (p ≡ q)
-    go true e = let given : Rectangle p ≡ Rectangle q = rw e at h in (eqb-true (r .number) 0 e, cc)
-    go false e = let given : Refused ≡ Rectangle q = rw e at h in let wrong : _≡_ {A = ℕ} 0 1 = cc in absurd (omega arith)
+    go true e = (eqb-true (r .number) 0 e, ap (λ (a : Report). a .rect) (rw e at h))
+    go false e = let wrong : _≡_ {A = ℕ} 0 2 = ap (λ (a : Report). a .number) (rw e at h) in absurd (omega arith)
 
 -- a load's sides are the steps below and above, and with a spread they are moved
 load-side-is : (r x : Float) (c : Coordinate) (o : Rounding) → side c o (loadRect r x) ≡ stepAt o (numberOf c r x)
@@ -55,6 +55,29 @@ spread-side-is r x spread resistance down = refl
 spread-side-is r x spread resistance up = refl
 spread-side-is r x spread reactance down = refl
 spread-side-is r x spread reactance up = refl
+
+-- ---- what is reported
+
+-- zeros where refused, and a rectangle where not
+refused-report : (r : Refusal) (p : Rect) → (answered r p .refusal .number ≡ 0 → ⊥) → reported (answered r p .found) ≡ record { number = 0; rect = zeroRect }
+refused-report r p h = ap (λ a. reported (a .found)) (answered-refused r p (λ e. h (ap (λ (a : Refusal). a .number) (answered-refusal r p) ∙ e)))
+
+given-report : (r : Refusal) (p : Rect) → answered r p .refusal .number ≡ 0 → reported (answered r p .found) ≡ record { number = rectangle; rect = p }
+given-report r p h = ap (λ a. reported (a .found)) (answered-gives r p (sym (ap (λ (a : Refusal). a .number) (answered-refusal r p)) ∙ h))
+
+pub reports : Reports
+unfolding enclosed
+reports = record { refusing = refusing; silent = (refl, refl); enclosing = enclosing }
+  where
+    refusing : (m : Measurement) → (enclosed m .refusal .number ≡ 0 → ⊥) → reportOf m ≡ record { number = 0; rect = zeroRect }
+    refusing NoCarrier h = absurd (h refl)
+    refusing (Load r x) h = refused-report (loadRefusal r x) (loadRect r x) h
+    refusing (LoadWithSpread r x spread) h = refused-report (spreadRefusal r x spread) (spreadRect r x spread) h
+
+    enclosing : (m : Measurement) → enclosed m .refusal .number ≡ 0 → (m ≡ NoCarrier → ⊥) → (p : Rect) × Encloses m p
+    enclosing NoCarrier h load = absurd (load refl)
+    enclosing (Load r x) h load = (loadRect r x, given-report (loadRefusal r x) (loadRect r x) h)
+    enclosing (LoadWithSpread r x spread) h load = (spreadRect r x spread, given-report (spreadRefusal r x spread) (spreadRect r x spread) h)
 
 -- ---- the smallest rectangle
 
@@ -121,7 +144,10 @@ spread-moves r x spread p e = (
 )
   where
     load-given : Encloses (Load r x) (loadRect r x)
-    load-given = unfold enclosed in ap (λ a. a .found) (answered-gives (loadRefusal r x) (loadRect r x) (numbers-passed r x spread (spread-passed r x spread p e .0) .0))
+    load-given = unfold enclosed in ap (λ a. reported (a .found)) (answered-gives (loadRefusal r x) (loadRect r x) (numbers-passed r x spread (spread-passed r x spread p e .0) .0))
+
+pub zero-spread : ZeroSpread
+zero-spread = same-answer
 
 -- ---- accepted as a control point
 
@@ -143,6 +169,6 @@ spread-good r x spread p e =
         (still-ordered (step-order (numberOf c r x)) (spread-steps spread (numbers-passed r x spread (spread-passed r x spread p e .0) .1)))
 
 pub good-rect : GoodRect
-good-rect NoCarrier p e = unfold enclosed in let wrong : _≡_ {A = ℕ} 0 1 = cc in absurd (omega arith)
-good-rect (Load r x) p e = spread-good r x (fin false 0 (pos 0)) p (ap (λ a. a .found) (zero-spread r x) ∙ e)
+good-rect NoCarrier p e = unfold enclosed in let wrong : _≡_ {A = ℕ} 1 2 = ap (λ (a : Report). a .number) e in absurd (omega arith)
+good-rect (Load r x) p e = spread-good r x (fin false 0 (pos 0)) p (ap (λ a. reported (a .found)) (same-answer r x) ∙ e)
 good-rect (LoadWithSpread r x spread) p e = spread-good r x spread p e
