@@ -85,9 +85,9 @@ module _ (c : Curve) (l : Ledger) (now : Curve) (kept : Kept c l now) where
 
   -- a stretch of the present curve takes its place
   followed :
-      (next : Curve) (b v : ℚ) (n : ℕ) (m : Ledger) → Accepted next → Stretch b v n now next → next .degree ≡ m .degree → next .sum ≡ m .brought + m .sum →
-      rat (l .start) +ℚ rat (l .width) *ℚ b ≡ rat (m .start) → rat (l .width) *ℚ v ≡ rat (m .width) → l .sum + n ≡ m .sum → Kept c m next
-  followed next b v n m a s d t p q r = record { accepted = a; degrees = d; sums = t; stretch = renamed p q r (joined _ _ b v _ n c now next (kept .stretch) s) }
+      (next : Curve) (b v : ℚ) (n : ℕ) (m : Ledger) → l .sum + n ≡ m .sum → Accepted next → Stretch b v n now next → next .degree ≡ m .degree → next .sum ≡ m .brought + m .sum →
+      rat (l .start) +ℚ rat (l .width) *ℚ b ≡ rat (m .start) → rat (l .width) *ℚ v ≡ rat (m .width) → Kept c m next
+  followed next b v n m r a s d t p q = record { accepted = a; degrees = d; sums = t; stretch = renamed p q r (joined _ _ b v _ n c now next (kept .stretch) s) }
 
   same-start : rat (l .start) +ℚ rat (l .width) *ℚ embed (pos 0) ≡ rat (l .start)
   same-start = ap (λ x. rat (l .start) +ℚ x) (*ℚ-zero (rat (l .width))) ∙ +ℚ-zero (rat (l .start))
@@ -113,22 +113,22 @@ module _ (c : Curve) (l : Ledger) (now : Curve) (kept : Kept c l now) where
   entered-kept (subdivide num den left) h =
       let (at, room) = subdivision-allowed num den h in
       subst (λ s. Kept c (entered l (subdivide num den left)) (s .left)) (sym (subdivided-accepted now num den (kept .accepted) at room))
-      (followed (leftOf now num den) _ _ _ (entered l (subdivide num den left)) (left-accepted now (kept .accepted) num den at)
+      (followed (leftOf now num den) _ _ _ (entered l (subdivide num den left)) (ap (λ (n : ℕ). l .sum + n) (kept .degrees)) (left-accepted now (kept .accepted) num den at)
       (left-stretch now (kept .accepted) num den (parameter-facts num den at .factors)) (left-degree now num den ∙ kept .degrees) (left-sum now num den ∙ piece-sums)
-      same-start (sym (rat-mul (l .width) (parameter num den))) (ap (λ (n : ℕ). l .sum + n) (kept .degrees)))
+      same-start (sym (rat-mul (l .width) (parameter num den))))
   entered-kept (subdivide num den right) h =
       let (at, room) = subdivision-allowed num den h in
       subst (λ s. Kept c (entered l (subdivide num den right)) (s .right)) (sym (subdivided-accepted now num den (kept .accepted) at room))
-      (followed (rightOf now num den) _ _ _ (entered l (subdivide num den right)) (right-accepted now (kept .accepted) num den at)
+      (followed (rightOf now num den) _ _ _ (entered l (subdivide num den right)) (ap (λ (n : ℕ). l .sum + n) (kept .degrees)) (right-accepted now (kept .accepted) num den at)
       (right-stretch now (kept .accepted) num den (parameter-facts num den at .factors)) (right-degree now num den ∙ kept .degrees) (right-sum now num den ∙ piece-sums)
-      (place-is l (parameter num den)) (sym (rat-mul (l .width) (complement (parameter num den)))) (ap (λ (n : ℕ). l .sum + n) (kept .degrees)))
+      (place-is l (parameter num den)) (sym (rat-mul (l .width) (complement (parameter num den)))))
   entered-kept elevate h =
       let (few, room) = elevation-allowed h in
       subst (λ e. Kept c (entered l elevate) (e .curve)) (sym (elevated-accepted now (kept .accepted) few room))
-      (followed (elevatedOf now) _ _ _ (entered l elevate) (elevatedOf-accepted now (kept .accepted) few)
+      (followed (elevatedOf now) _ _ _ (entered l elevate) refl (elevatedOf-accepted now (kept .accepted) few)
       (elevated-stretch now (kept .accepted) few) (elevated-degree now ∙ ap (λ (n : ℕ). n + 1) (kept .degrees))
       (elevated-sum now ∙ one-more)
-      same-start (*ℚ-one (rat (l .width))) refl)
+      same-start (*ℚ-one (rat (l .width))))
 
   -- and so does every call
   pub after-kept : (call : Call) → Kept c (after l call) (leaves now call)

@@ -84,26 +84,16 @@ refused l elevate = highestRefusal (l .degree) orElse sumRefusal (l .brought + e
 unfoldable pub placeOf : Ledger → Frac → Frac
 placeOf l t = l .start +ᶠ l .width *ᶠ t
 
+-- the ledger of a piece, from a start and as wide as said
+abbrev pub pieceFrom : Ledger → Frac → Frac → Ledger
+pieceFrom l start width = record { degree = l .degree; start = start; width = width; sum = subdividedSum l; brought = l .brought }
+
 -- the ledger after an accepted call
 abbrev pub entered : Ledger → Call → Ledger
 entered l (evaluate num den) = l
 entered l (evaluateSixteenths j) = l
-entered l (subdivide num den left) =
-    record {
-      degree = l .degree;
-      start = l .start;
-      width = l .width *ᶠ parameter num den;
-      sum = subdividedSum l;
-      brought = l .brought;
-    }
-entered l (subdivide num den right) =
-    record {
-      degree = l .degree;
-      start = placeOf l (parameter num den);
-      width = l .width *ᶠ complement (parameter num den);
-      sum = subdividedSum l;
-      brought = l .brought;
-    }
+entered l (subdivide num den left) = pieceFrom l (l .start) (l .width *ᶠ parameter num den)
+entered l (subdivide num den right) = pieceFrom l (placeOf l (parameter num den)) (l .width *ᶠ complement (parameter num den))
 entered l elevate =
     record { degree = l .degree + 1; start = l .start; width = l .width; sum = elevatedSum l; brought = l .brought }
 
