@@ -16,13 +16,13 @@ use Rattle.curve.specs.Refusals.{none}
 use Rattle.search.specs.declared.Verdict.{Verdict}
 use Rattle.search.specs.declared.Verdict.the-variants.{Refused, Inside, Outside, Spent, Undecided}
 use Rattle.search.specs.declared.SearchAnswer.{SearchAnswer}
-use Rattle.search.specs.declared.step.Step.the-variants.{Ended, Contained, Apart, Across}
+use Rattle.search.specs.declared.visit.Visit.the-variants.{Ended, Contained, Apart, Across}
 use Rattle.search.specs.Limits.{maxBudget}
 use Rattle.search.specs.Verdict.{reported, spent}
 use Rattle.search.specs.Walk.{goesOn, countOf, looked, walked}
 use Rattle.search.specs.Search.{searchRefusal, searched}
 use Rattle.search.specs.Promises.{Counted, SpentAll, NeverSpent, LargerBudget}
-use Rattle.search.proofs.Steps.{Going, clear, marked, Looks, Rules, walk-keeps, walked-by, step-ended, step-contained, step-apart, step-across, further}
+use Rattle.search.proofs.Visits.{Going, clear, marked, Looks, Rules, walk-keeps, walked-by, visit-ended, visit-contained, visit-apart, visit-across, further}
 use Rattle.search.proofs.Counts.{dueOf, count-due, looked-going, noted-going, looked-budget, walked-budget, walked-due}
 use Rattle.search.proofs.Accepted.{number-facts, same-refusal, answer, searched-accepted, searched-refused, by-answer}
 
@@ -65,7 +65,7 @@ module _ (box : Rect) (budget : ℕ) where
 
   -- a walk that has ended stays as it is
   walked-ended : (m : ℕ) (piece : Curve) (d i : ℕ) (v : Verdict) → goesOn v ≡ false → v ≡ walked box budget m piece d i v
-  walked-ended m piece d i v e = walked-by box budget m piece d i v Ended (step-ended box budget piece v e)
+  walked-ended m piece d i v e = walked-by box budget m piece d i v Ended (visit-ended box budget piece v e)
 
 -- the same walk with a larger budget
 module _ (box : Rect) (budget budget′ : ℕ) (larger : budget ≤ budget′) where
@@ -80,9 +80,9 @@ module _ (box : Rect) (budget budget′ : ℕ) (larger : budget ≤ budget′) w
   larger-rules = record {
     ended = λ m piece d i v e h n. walked-ended box budget′ m piece d i v e;
     exhausted = λ m piece d i v g f h n. absurd (n refl);
-    contained = λ m piece d i v l w h n. walked-by box budget′ m piece d i v Contained (step-contained box budget′ piece v (looks-larger h l) w);
-    apart = λ m piece d i v l o h n. walked-by box budget′ m piece d i v Apart (step-apart box budget′ piece v (looks-larger h l) o);
-    limit = λ piece d i v l o h n. walked-by box budget′ 0 piece d i v Across (step-across box budget′ piece v (looks-larger h l) o);
+    contained = λ m piece d i v l w h n. walked-by box budget′ m piece d i v Contained (visit-contained box budget′ piece v (looks-larger h l) w);
+    apart = λ m piece d i v l o h n. walked-by box budget′ m piece d i v Apart (visit-apart box budget′ piece v (looks-larger h l) o);
+    limit = λ piece d i v l o h n. walked-by box budget′ 0 piece d i v Across (visit-across box budget′ piece v (looks-larger h l) o);
     halves = λ m piece d i v l o w u e f left right h n.
         let seen = looked-budget box budget v l h in
         let counted = subst (λ (x : Verdict). countOf x ≤ budget) (sym e) (walked-budget box budget m (subdivided piece 1 2 .left) (d + 1) (i * 2) (looked v) seen) in
@@ -90,7 +90,7 @@ module _ (box : Rect) (budget budget′ : ℕ) (larger : budget ≤ budget′) w
         (walked-ended box budget m (subdivided piece 1 2 .right) (d + 1) (i * 2 + 1) w (spent-ended w s) ∙ sym f) s) in
         right counted n
         ∙ ap (walked box budget′ m (subdivided piece 1 2 .right) (d + 1) (i * 2 + 1)) (left seen unspent)
-        ∙ walked-by box budget′ (suc m) piece d i v Across (step-across box budget′ piece v (looks-larger h l) o);
+        ∙ walked-by box budget′ (suc m) piece d i v Across (visit-across box budget′ piece v (looks-larger h l) o);
   }
 
   walked-larger : (m : ℕ) (piece : Curve) (d i : ℕ) (v : Verdict) → Same m piece d i v (walked box budget m piece d i v)

@@ -10,7 +10,7 @@ use Rattle.curve.specs.declared.Curve.{Curve}
 use Rattle.search.specs.declared.Verdict.{Verdict}
 use Rattle.search.specs.declared.Verdict.the-variants.{Refused, Inside, Outside, Spent, Undecided}
 use Rattle.search.specs.Walk.{countOf, looked, noted, walked}
-use Rattle.search.proofs.Steps.{Going, clear, marked, Looks, Rules, walk-keeps}
+use Rattle.search.proofs.Visits.{Going, clear, marked, Looks, Rules, walk-keeps}
 
 -- the pieces that were due: those looked at, and one more where the budget was spent
 abbrev pub dueOf : Verdict → ℕ

@@ -10,7 +10,7 @@ use Rattle.search.specs.declared.Verdict.{Verdict}
 use Rattle.search.specs.Limits.{maxBudget}
 use Rattle.search.specs.Walk.{countOf}
 use Rattle.search.specs.Inner.{Due}
-use Rattle.search.proofs.Steps.{Looks}
+use Rattle.search.proofs.Visits.{Looks}
 
 module _ {below depth index budget : ℕ} {v : Verdict} (due : Due below depth index budget v) where
   -- an index has at most twelve bits

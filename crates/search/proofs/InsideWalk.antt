@@ -14,14 +14,14 @@ use Rattle.curve.specs.Calls.{bounded, subdivided}
 use Rattle.search.specs.declared.Verdict.{Verdict}
 use Rattle.search.specs.declared.Verdict.the-variants.{Refused, Inside, Outside, Spent, Undecided}
 use Rattle.search.specs.declared.SearchAnswer.{SearchAnswer}
-use Rattle.search.specs.declared.step.Step.{Step}
-use Rattle.search.specs.declared.step.Step.the-variants.{Exhausted, Contained, Apart, Across}
+use Rattle.search.specs.declared.visit.Visit.{Visit}
+use Rattle.search.specs.declared.visit.Visit.the-variants.{Exhausted, Contained, Apart, Across}
 use Rattle.search.specs.Box.{inBox, apartFrom}
 use Rattle.search.specs.Verdict.{reported, inside}
-use Rattle.search.specs.Walk.{goesOn, countOf, looked, noted, after, stepAt, walked}
+use Rattle.search.specs.Walk.{goesOn, countOf, looked, noted, after, visitAt, walked}
 use Rattle.search.specs.Search.{searchRefusal, endsInside}
 use Rattle.search.specs.Inner.{insideCount, TellsInside}
-use Rattle.search.proofs.Steps.{Going, clear, marked, Looks, Within, Separate, Crossing, Rules, walk-keeps, step-exhausted, step-contained, step-apart, step-across, walked-by, further, further-limit, further-halves}
+use Rattle.search.proofs.Visits.{Going, clear, marked, Looks, Within, Separate, Crossing, Rules, walk-keeps, visit-exhausted, visit-contained, visit-apart, visit-across, walked-by, further, further-limit, further-halves}
 use Rattle.search.proofs.Counts.{looked-count, walked-budget}
 use Rattle.search.proofs.Accepted.{Facts, searched-accepted, searched-refused}
 
@@ -105,24 +105,24 @@ module _ (box : Rect) (budget : ℕ) where
       half : Verdict
       half = walked box budget m p d i (Inside (n + 1))
 
-  -- ---- the walk of a piece, step by step
+  -- ---- the walk of a piece, visit by visit
 
   module _ (below : ℕ) (piece : Curve) (before : ℕ) where
     pub tells-spent : before ≡ budget → TellsInside box budget below piece before 0
-    tells-spent e = record { told = λ d i. ap insideCount (walked-by box budget below piece d i (Inside before) Exhausted (step-exhausted box budget piece (Inside before) clear e)) }
+    tells-spent e = record { told = λ d i. ap insideCount (walked-by box budget below piece d i (Inside before) Exhausted (visit-exhausted box budget piece (Inside before) clear e)) }
 
     module _ (room : before ≡ budget → ⊥) where
       looks : Looks budget (Inside before)
       looks = record { going = clear; below = room }
 
       pub tells-contained : Within box piece → TellsInside box budget below piece before (before + 1)
-      tells-contained w = record { told = λ d i. ap insideCount (walked-by box budget below piece d i (Inside before) Contained (step-contained box budget piece (Inside before) looks w)) }
+      tells-contained w = record { told = λ d i. ap insideCount (walked-by box budget below piece d i (Inside before) Contained (visit-contained box budget piece (Inside before) looks w)) }
 
       pub tells-apart : Separate box piece → TellsInside box budget below piece before 0
-      tells-apart w = record { told = λ d i. ap insideCount (walked-by box budget below piece d i (Inside before) Apart (step-apart box budget piece (Inside before) looks w)) }
+      tells-apart w = record { told = λ d i. ap insideCount (walked-by box budget below piece d i (Inside before) Apart (visit-apart box budget piece (Inside before) looks w)) }
 
       across : Crossing box piece → (d i : ℕ) → further box budget below piece d i (Inside (before + 1)) ≡ walked box budget below piece d i (Inside before)
-      across w d i = walked-by box budget below piece d i (Inside before) Across (step-across box budget piece (Inside before) looks w)
+      across w d i = walked-by box budget below piece d i (Inside before) Across (visit-across box budget piece (Inside before) looks w)
 
       pub tells-limit : Crossing box piece → below ≡ 0 → TellsInside box budget below piece before 0
       tells-limit w e = record { told = λ d i. ap insideCount (further-limit box budget below piece d i (Inside (before + 1)) e ∙ across w d i) }
@@ -171,14 +171,14 @@ module _ (c : Curve) (box : Rect) (depth budget : ℕ) where
       by-verdict (Undecided d i n) h = refl
 
   -- and the first look may tell
-  first-look : (s : Step) → stepAt box budget c (Inside 0) ≡ s → Facts c box depth budget → endsInside c box depth budget ≡ eqb (reported (after s 0 0 (Inside 0) (further box budget depth c 0 0)) .number) inside
+  first-look : (s : Visit) → visitAt box budget c (Inside 0) ≡ s → Facts c box depth budget → endsInside c box depth budget ≡ eqb (reported (after s 0 0 (Inside 0) (further box budget depth c 0 0)) .number) inside
   first-look s e f = ends-by-walk f ∙ ap (λ (v : Verdict). eqb (reported v .number) inside) (sym (walked-by box budget depth c 0 0 (Inside 0) s e))
 
   some-budget : Facts c box depth budget → Looks budget (Inside 0)
   some-budget f = record { going = clear; below = λ e. omega (arith, e, f .effort .some) }
 
   pub look-within : Facts c box depth budget → inBox (bounded c .rect) box ≡ true → endsInside c box depth budget ≡ true
-  look-within f e = first-look Contained (step-contained box budget c (Inside 0) (some-budget f) (record { contained = e })) f
+  look-within f e = first-look Contained (visit-contained box budget c (Inside 0) (some-budget f) (record { contained = e })) f
 
   pub look-apart : Facts c box depth budget → inBox (bounded c .rect) box ≡ false → apartFrom (bounded c .rect) box ≡ true → endsInside c box depth budget ≡ false
-  look-apart f o e = first-look Apart (step-apart box budget c (Inside 0) (some-budget f) (record { outside = o; apart = e })) f
+  look-apart f o e = first-look Apart (visit-apart box budget c (Inside 0) (some-budget f) (record { outside = o; apart = e })) f

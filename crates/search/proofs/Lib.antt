@@ -1,5 +1,5 @@
 -- Laws of the definitions in specs/, and the promises.
-pub mod Steps
+pub mod Visits
 pub mod Counts
 pub mod Due
 pub mod Accepted

@@ -31,7 +31,7 @@ use Rattle.search.specs.Search.{deepestSum}
 use Rattle.search.specs.Pieces.{pieceAt}
 use Rattle.search.specs.Promises.{answered, Allowed, LoadIn, Between, InsideMeans, OutsideMeans}
 use Rattle.search.proofs.InsideWalk.{inside-on, looked-inside, noted-inside}
-use Rattle.search.proofs.Steps.{Rules, walk-keeps}
+use Rattle.search.proofs.Visits.{Rules, walk-keeps}
 use Rattle.search.proofs.Accepted.{Facts, by-answer}
 use Rattle.search.proofs.Named.{Place, whole-place, place-half, outside-names}
 use Rattle.search.proofs.Dyadic.{dyadic, parameter-dyadic, dyadic-whole, dyadic-left, dyadic-end, along as point-along}

@@ -18,7 +18,7 @@ use Rattle.search.specs.Box.{apartFrom}
 use Rattle.search.specs.Walk.{goesOn, looked, noted, walked}
 use Rattle.search.specs.Pieces.{halfOf, pieceAt, isAcross, acrossTo}
 use Rattle.search.specs.Promises.{FirstNoted, FoundApart, UndecidedNames, OutsideNames}
-use Rattle.search.proofs.Steps.{Going, clear, marked, Within, Crossing, Rules, walk-keeps}
+use Rattle.search.proofs.Visits.{Going, clear, marked, Within, Crossing, Rules, walk-keeps}
 use Rattle.search.proofs.Counts.{looked-going}
 use Rattle.search.proofs.Accepted.{by-answer}
 

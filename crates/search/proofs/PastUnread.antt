@@ -15,11 +15,11 @@ use Rattle.curve.specs.Calls.{bounded, subdivided}
 use Rattle.curve_promises.proofs.PastUnread as Curves
 use Rattle.search.specs.declared.Verdict.{Verdict}
 use Rattle.search.specs.declared.Verdict.the-variants.{Refused, Inside}
-use Rattle.search.specs.declared.step.Step.{Step}
+use Rattle.search.specs.declared.visit.Visit.{Visit}
 use Rattle.search.specs.declared.SearchAnswer.{SearchAnswer}
 use Rattle.search.specs.Limits.{maxDepth, maxBudget}
 use Rattle.search.specs.Box.{isBox, inBox, apartFrom}
-use Rattle.search.specs.Walk.{goesOn, countOf, noted, stepBy, after, stepAt, walked}
+use Rattle.search.specs.Walk.{goesOn, countOf, noted, visitBy, after, visitAt, walked}
 use Rattle.search.specs.Search.{effortRefusal, boxRefusal, searchRefusal, searched}
 use Rattle.search.specs.Promises.{PastUnread}
 
@@ -28,9 +28,9 @@ unfolding effortRefusal
 same-effort c e same depth budget =
     ap₂ (λ (s n : ℕ). unless (leb depth maxDepth) 8 orElse unless (leb 1 budget && leb budget maxBudget) 9 orElse sumRefusal (s + depth * n)) (same .sums) (same .rest .degrees)
 
--- the step at a piece with these bounds
-abbrev pub stepWith : Rect → ℕ → Verdict → Enclosure → Step
-stepWith box budget v x = stepBy (goesOn v) (eqb (countOf v) budget) (inBox (x .rect) box) (apartFrom (x .rect) box)
+-- the visit of a piece with these bounds
+abbrev pub visitWith : Rect → ℕ → Verdict → Enclosure → Visit
+visitWith box budget v x = visitBy (goesOn v) (eqb (countOf v) budget) (inBox (x .rect) box) (apartFrom (x .rect) box)
 
 module _ (c e : Curve) (box : Rect) (budget : ℕ) (same : SameCurve c e) where
   bounds : bounded c ≡ bounded e
@@ -40,10 +40,10 @@ module _ (c e : Curve) (box : Rect) (budget : ℕ) (same : SameCurve c e) where
   halves = Curves.past-unread .subdividing c e same 1 2
 
   walks : (below depth index : ℕ) (v : Verdict) → walked box budget below c depth index v ≡ walked box budget below e depth index v
-  unfolding walked stepAt
-  walks zero depth index v = ap (λ (x : Enclosure). after (stepWith box budget v x) depth index v (noted depth index)) bounds
+  unfolding walked visitAt
+  walks zero depth index v = ap (λ (x : Enclosure). after (visitWith box budget v x) depth index v (noted depth index)) bounds
   walks (suc below) depth index v =
-      ap₂ (λ (x : Enclosure) (s : Subdivision). after (stepWith box budget v x) depth index v (λ w.
+      ap₂ (λ (x : Enclosure) (s : Subdivision). after (visitWith box budget v x) depth index v (λ w.
       walked box budget below (s .right) (depth + 1) (index * 2 + 1) (walked box budget below (s .left) (depth + 1) (index * 2) w)))
       bounds halves
 

@@ -20,12 +20,12 @@ use Rattle.curve_promises.proofs.PastUnread as Curves
 use Rattle.search.specs.declared.Verdict.{Verdict}
 use Rattle.search.specs.declared.Verdict.the-variants.{Refused, Inside}
 use Rattle.search.specs.Box.{isBox}
-use Rattle.search.specs.Walk.{noted, after, stepAt, walked}
+use Rattle.search.specs.Walk.{noted, after, visitAt, walked}
 use Rattle.search.specs.Search.{deepestSum, effortRefusal, boxRefusal, searchRefusal, searched}
 use Rattle.search.specs.Pieces.{halfOf, pieceAt}
 use Rattle.search.specs.Promises.{withSum, NoSumInside}
 use Rattle.search.proofs.Accepted.{Effort, Facts, answer, effort-none, number-facts, searched-accepted, searched-refused, searched-refusal}
-use Rattle.search.proofs.PastUnread.{stepWith}
+use Rattle.search.proofs.PastUnread.{visitWith}
 use Rattle.search.proofs.Reached.{at-half, Reached, reached-whole, reached-half, cut-room, reached}
 
 -- ---- curves that are equal but for their sums
@@ -65,9 +65,9 @@ module _ (box : Rect) (budget : ℕ) where
   walks-same :
       (below : ℕ) (c e : Curve) → SameButSum c e → Accepted c → AcceptedSum (deepestSum c below) → AcceptedSum (deepestSum e below) →
       (depth index : ℕ) (v : Verdict) → walked box budget below c depth index v ≡ walked box budget below e depth index v
-  unfolding walked stepAt
+  unfolding walked visitAt
   walks-same zero c e same ok room room′ depth index v =
-      ap (λ (x : Enclosure). after (stepWith box budget v x) depth index v (noted depth index)) (Curves.past-unread .bounding c e same)
+      ap (λ (x : Enclosure). after (visitWith box budget v x) depth index v (noted depth index)) (Curves.past-unread .bounding c e same)
   walks-same (suc below) c e same ok room room′ depth index v =
       let ok′ = other-accepted c e same ok in
       let half : (bit i : ℕ) (w : Verdict) → walked box budget below (halfOf bit (subdivided c 1 2)) (depth + 1) i w ≡ walked box budget below (halfOf bit (subdivided e 1 2)) (depth + 1) i w = λ bit i w.
@@ -76,7 +76,7 @@ module _ (box : Rect) (budget : ℕ) where
       walks-same below (halfOf bit (subdivided c 1 2)) (halfOf bit (subdivided e 1 2))
       (halves-same c e same ok (first-room c below ok room) (first-room e below ok′ room′) bit)
       (r .accepted) (half-room c _ below r room) (half-room e _ below r′ room′) (depth + 1) i w in
-      ap₂ (λ (x : Enclosure) (further : Verdict → Verdict). after (stepWith box budget v x) depth index v further) (Curves.past-unread .bounding c e same)
+      ap₂ (λ (x : Enclosure) (further : Verdict → Verdict). after (visitWith box budget v x) depth index v further) (Curves.past-unread .bounding c e same)
       (fun-ext (λ w.
       half 1 (index * 2 + 1) (walked box budget below (subdivided c 1 2 .left) (depth + 1) (index * 2) w)
       ∙ ap (walked box budget below (subdivided e 1 2 .right) (depth + 1) (index * 2 + 1)) (half 0 (index * 2) w)))

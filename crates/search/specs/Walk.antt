@@ -8,8 +8,8 @@ use Rattle.curve.specs.declared.Curve.{Curve}
 use Rattle.curve.specs.Calls.{bounded, subdivided}
 use Rattle.search.specs.declared.Verdict.{Verdict}
 use Rattle.search.specs.declared.Verdict.the-variants.{Refused, Inside, Outside, Spent, Undecided}
-use Rattle.search.specs.declared.step.Step.{Step}
-use Rattle.search.specs.declared.step.Step.the-variants.{Ended, Exhausted, Contained, Apart, Across}
+use Rattle.search.specs.declared.visit.Visit.{Visit}
+use Rattle.search.specs.declared.visit.Visit.the-variants.{Ended, Exhausted, Contained, Apart, Across}
 use Rattle.search.specs.Verdict.{reported}
 use Rattle.search.specs.Box.{inBox, apartFrom}
 
@@ -42,15 +42,15 @@ noted depth index (Spent count) = Spent count
 noted depth index (Undecided depth′ index′ count) = Undecided depth′ index′ count
 
 -- what becomes of a piece that is due, by whether the walk goes on, whether its count is at the budget, whether the span lies in the box, and whether it is apart from it
-abbrev pub stepBy : Bool → Bool → Bool → Bool → Step
-stepBy false full within apart = Ended
-stepBy true true within apart = Exhausted
-stepBy true false true apart = Contained
-stepBy true false false true = Apart
-stepBy true false false false = Across
+abbrev pub visitBy : Bool → Bool → Bool → Bool → Visit
+visitBy false full within apart = Ended
+visitBy true true within apart = Exhausted
+visitBy true false true apart = Contained
+visitBy true false false true = Apart
+visitBy true false false false = Across
 
--- the verdict after a step; `further` is what follows where the span lies across the box's edge
-abbrev pub after : Step → ℕ → ℕ → Verdict → (Verdict → Verdict) → Verdict
+-- the verdict after a visit; `further` is what follows where the span lies across the box's edge
+abbrev pub after : Visit → ℕ → ℕ → Verdict → (Verdict → Verdict) → Verdict
 after Ended depth index v further = v
 after Exhausted depth index v further = Spent (countOf v)
 after Contained depth index v further = looked v
@@ -58,15 +58,15 @@ after Apart depth index v further = Outside depth index (countOf v + 1)
 after Across depth index v further = further (looked v)
 
 module _ (box : Rect) (budget : ℕ) where
-  -- the step at a piece, from the verdict so far and the piece's span
-  unfoldable pub stepAt : Curve → Verdict → Step
-  stepAt piece v =
-      stepBy (goesOn v) (eqb (countOf v) budget) (inBox (bounded piece .rect) box) (apartFrom (bounded piece .rect) box)
+  -- the visit of a piece, from the verdict so far and the piece's span
+  unfoldable pub visitAt : Curve → Verdict → Visit
+  visitAt piece v =
+      visitBy (goesOn v) (eqb (countOf v) budget) (inBox (bounded piece .rect) box) (apartFrom (bounded piece .rect) box)
 
   -- the walk of a piece with so many depths below it: across the edge it is noted at the depth limit; above, it is cut at 1/2, and the left piece is walked wholly before the right
   unfoldable pub walked : ℕ → Curve → ℕ → ℕ → Verdict → Verdict
-  walked zero piece depth index v = after (stepAt piece v) depth index v (noted depth index)
+  walked zero piece depth index v = after (visitAt piece v) depth index v (noted depth index)
   walked (suc below) piece depth index v =
-      after (stepAt piece v) depth index v (λ w.
+      after (visitAt piece v) depth index v (λ w.
       walked below (subdivided piece 1 2 .right) (depth + 1) (index * 2 + 1)
       (walked below (subdivided piece 1 2 .left) (depth + 1) (index * 2) w))

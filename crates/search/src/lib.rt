@@ -17,11 +17,11 @@ use curve::sum_refusal;
 
 mod boxes;
 mod inside;
-mod step;
+mod visit;
 mod verdicts;
 
-use step::Step;
-use step::step_at;
+use visit::Visit;
+use visit::visit_at;
 use verdicts::count_of;
 use verdicts::looked;
 use verdicts::noted;
@@ -104,16 +104,16 @@ fn walk(
     requires { ⌜ Due below depth index budget before ⌝ }
     ensures { λ r. ⌜ r ≡ walked limits budget below piece depth index before ⌝ }
 {
-    match step_at(piece, limits, budget, before) {
-        Step::Ended => before,
-        Step::Exhausted => Verdict::Spent(count_of(before)),
-        Step::Contained => looked(before),
-        Step::Apart => Verdict::Outside {
+    match visit_at(piece, limits, budget, before) {
+        Visit::Ended => before,
+        Visit::Exhausted => Verdict::Spent(count_of(before)),
+        Visit::Contained => looked(before),
+        Visit::Apart => Verdict::Outside {
             depth,
             index,
             count: count_of(before) + 1,
         },
-        Step::Across => {
+        Visit::Across => {
             let seen = looked(before);
             if below == 0 {
                 return noted(depth, index, seen);

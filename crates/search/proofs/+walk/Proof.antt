@@ -1,4 +1,4 @@
--- The proof of the cycle of calls {walk}: it walks a piece by the definition's steps. The measure is the number of depths below the piece.
+-- The proof of the cycle of calls {walk}: it walks a piece by the definition's visits. The measure is the number of depths below the piece.
 -- Assumes nothing.
 use mathlib.Core.Path.{_≡_, sym, ap, _∙_, subst}
 use Prim.Native.Nat.{ℕ, _+_, _*_, _-_, _≤_, _<_}
@@ -9,18 +9,18 @@ use borrow.Fn.Kinds.{In}
 use borrow.Fn.PlainCycle.{Measures, is, falls, and}
 use Rattle.search.specs.declared.Verdict.{Verdict}
 use Rattle.search.specs.declared.Verdict.the-variants.{Spent, Outside}
-use Rattle.search.specs.declared.step.Step.{Step}
-use Rattle.search.specs.declared.step.Step.the-variants.{Ended, Exhausted, Contained, Apart, Across}
-use Rattle.search.specs.Walk.{countOf, looked, noted, after, stepAt, walked}
+use Rattle.search.specs.declared.visit.Visit.{Visit}
+use Rattle.search.specs.declared.visit.Visit.the-variants.{Ended, Exhausted, Contained, Apart, Across}
+use Rattle.search.specs.Walk.{countOf, looked, noted, after, visitAt, walked}
 use Rattle.search.specs.Inner.{Due}
-use Rattle.search.proofs.Steps.{Looks, looksAt, step-looks, walked-by, further, further-limit, further-halves}
+use Rattle.search.proofs.Visits.{Looks, looksAt, visit-looks, walked-by, further, further-limit, further-halves}
 use Rattle.search.proofs.Counts.{looked-budget, walked-budget}
 use Rattle.search.proofs.Due.{index-small, due-half, room}
 use Rattle.search.proofs.walk.Reads as walk
 use Rattle.search.proofs.walk.Kinds as walk-kinds
 use Rattle.search.proofs.+walk.Lts-walk as lts
 use Rattle.curve.proofs.subdivide.Reads as subdivide-reads
-use Rattle.search.proofs.step.step_at.Reads as step-at-reads
+use Rattle.search.proofs.visit.visit_at.Reads as visit-at-reads
 use Rattle.search.proofs.verdicts.count_of.Reads as count-of-reads
 use Rattle.search.proofs.verdicts.looked.Reads as looked-reads
 use Rattle.search.proofs.verdicts.noted.Reads as noted-reads
@@ -39,8 +39,8 @@ walk-below t = and 0 walk-kinds.ps (falls 0 walk-kinds.ps _<_ μ-walk t) walk.Pr
 
 abbrev callees : ℕ → lts.Claims
 callees t = (
-  step-at-reads.Asked,
-  step-at-reads.Learnt,
+  visit-at-reads.Asked,
+  visit-at-reads.Learnt,
   count-of-reads.Asked,
   count-of-reads.Learnt,
   looked-reads.Asked,
@@ -54,25 +54,25 @@ callees t = (
 )
 
 module _ (t : ℕ) where
-  -- the step that the walk takes, as the definition has it
-  stepped :
-      (c : lts.After-step-at (callees t) (walk-at t) walk.Post) (s : Step) → c .step-at .result ≡ s →
-      stepAt (c .before .args .limits) (c .before .args .budget) (c .before .args .piece) (c .before .args .before) ≡ s
-  stepped c s e = sym (c .step-at .ensures) ∙ e
+  -- the visit of the walk, as the definition has it
+  visited :
+      (c : lts.After-visit-at (callees t) (walk-at t) walk.Post) (s : Visit) → c .visit-at .result ≡ s →
+      visitAt (c .before .args .limits) (c .before .args .budget) (c .before .args .piece) (c .before .args .before) ≡ s
+  visited c s e = sym (c .visit-at .ensures) ∙ e
 
   looking :
-      (c : lts.After-step-at (callees t) (walk-at t) walk.Post) (s : Step) → c .step-at .result ≡ s → T (looksAt s) →
+      (c : lts.After-visit-at (callees t) (walk-at t) walk.Post) (s : Visit) → c .visit-at .result ≡ s → T (looksAt s) →
       Looks (c .before .args .budget) (c .before .args .before)
-  looking c s e h = step-looks (c .before .args .limits) (c .before .args .budget) (c .before .args .piece) (c .before .args .before) s (stepped c s e) h
+  looking c s e h = visit-looks (c .before .args .limits) (c .before .args .budget) (c .before .args .piece) (c .before .args .before) s (visited c s e) h
 
   walked-to :
-      (c : lts.After-step-at (callees t) (walk-at t) walk.Post) (s : Step) → c .step-at .result ≡ s → let a = c .before .args in
+      (c : lts.After-visit-at (callees t) (walk-at t) walk.Post) (s : Visit) → c .visit-at .result ≡ s → let a = c .before .args in
       after s (a .depth) (a .index) (a .before) (further (a .limits) (a .budget) (a .below) (a .piece) (a .depth) (a .index))
       ≡ walked (a .limits) (a .budget) (a .below) (a .piece) (a .depth) (a .index) (a .before)
-  walked-to c s e = let a = c .before .args in walked-by (a .limits) (a .budget) (a .below) (a .piece) (a .depth) (a .index) (a .before) s (stepped c s e)
+  walked-to c s e = let a = c .before .args in walked-by (a .limits) (a .budget) (a .below) (a .piece) (a .depth) (a .index) (a .before) s (visited c s e)
 
-  step-at-requires : lts.Need-step-at-requires (callees t) (walk-at t) walk.Post
-  step-at-requires c κs = search needs
+  visit-at-requires : lts.Need-visit-at-requires (callees t) (walk-at t) walk.Post
+  visit-at-requires c κs = search needs
 
   enum-told : lts.Need-enum-told (callees t) (walk-at t) walk.Post
   enum-told c = search needs
@@ -197,7 +197,7 @@ module _ (t : ℕ) where
 pub +walk-spec : {M : Type 1} → statement M
 +walk-spec =
     close μ-walk λ t. lts.spec (callees t) (walk-at t) walk.Post
-    (step-at-requires t)
+    (visit-at-requires t)
     (enum-told t)
     (enum-told-2 t)
     (count-of-requires t)

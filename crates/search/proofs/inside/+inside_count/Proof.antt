@@ -9,7 +9,7 @@ use borrow.Fn.PlainCycle.{Measures, is, falls, and}
 use Rattle.curve.specs.declared.Enclosure.{Enclosure}
 use Rattle.curve.specs.Calls.{bounded}
 use Rattle.search.specs.Box.{inBox, apartFrom}
-use Rattle.search.proofs.Steps.{Crossing}
+use Rattle.search.proofs.Visits.{Crossing}
 use Rattle.search.proofs.InsideWalk.{tells-spent, tells-contained, tells-apart, tells-limit, tells-none, tells-both, half-within}
 use Rattle.search.proofs.inside.inside_count.Reads as inside-count
 use Rattle.search.proofs.inside.inside_count.Kinds as inside-count-kinds

@@ -1,4 +1,4 @@
--- The walk by its steps: what each step says of the verdict and the span before it, and an induction over the walk by the rules of document 01.
+-- The walk by its visits: what each visit says of the verdict and the span before it, and an induction over the walk by the rules of document 01.
 -- Assumes nothing.
 use mathlib.Core.Path.{_≡_, refl, sym, ap, ap₂, _∙_, subst}
 use mathlib.Core.Bool.{Bool, true, false, false≢true}
@@ -12,13 +12,13 @@ use Rattle.curve.specs.declared.Subdivision.{Subdivision}
 use Rattle.curve.specs.Calls.{bounded, subdivided}
 use Rattle.search.specs.declared.Verdict.{Verdict}
 use Rattle.search.specs.declared.Verdict.the-variants.{Refused, Inside, Outside, Spent, Undecided}
-use Rattle.search.specs.declared.step.Step.{Step}
-use Rattle.search.specs.declared.step.Step.the-variants.{Ended, Exhausted, Contained, Apart, Across}
+use Rattle.search.specs.declared.visit.Visit.{Visit}
+use Rattle.search.specs.declared.visit.Visit.the-variants.{Ended, Exhausted, Contained, Apart, Across}
 use Rattle.search.specs.Box.{inBox, apartFrom}
-use Rattle.search.specs.Walk.{goesOn, countOf, looked, noted, stepBy, after, stepAt, walked}
+use Rattle.search.specs.Walk.{goesOn, countOf, looked, noted, visitBy, after, visitAt, walked}
 
--- a step that looks at its piece
-abbrev pub looksAt : Step → Bool
+-- a visit that looks at its piece
+abbrev pub looksAt : Visit → Bool
 looksAt Ended = false
 looksAt Exhausted = false
 looksAt Contained = true
@@ -60,14 +60,14 @@ module _ (box : Rect) where
     pub meeting : apartFrom (bounded piece .rect) box ≡ false
 
   module _ (budget : ℕ) where
-    -- a step by its cases
-    pub by-step :
-        (P : Step → Type 0) (piece : Curve) (v : Verdict) →
+    -- a visit by its cases
+    pub by-visit :
+        (P : Visit → Type 0) (piece : Curve) (v : Verdict) →
         (goesOn v ≡ false → P Ended) → (Going v → countOf v ≡ budget → P Exhausted) →
         (Looks budget v → Within piece → P Contained) → (Looks budget v → Separate piece → P Apart) → (Looks budget v → Crossing piece → P Across) →
-        P (stepAt box budget piece v)
-    unfolding stepAt
-    by-step P piece v ended exhausted contained apart across =
+        P (visitAt box budget piece v)
+    unfolding visitAt
+    by-visit P piece v ended exhausted contained apart across =
         go (goesOn v) (eqb (countOf v) budget) (inBox (bounded piece .rect) box) (apartFrom (bounded piece .rect) box) refl refl refl refl
       where
         looks : goesOn v ≡ true → eqb (countOf v) budget ≡ false → Looks budget v
@@ -75,35 +75,35 @@ module _ (box : Rect) where
 
         go : (g f i o : Bool) →
             goesOn v ≡ g → eqb (countOf v) budget ≡ f → inBox (bounded piece .rect) box ≡ i → apartFrom (bounded piece .rect) box ≡ o →
-            P (stepBy g f i o)
+            P (visitBy g f i o)
         go false f i o p q r s = ended p
         go true true i o p q r s = exhausted (on-going v p) (eqb-true (countOf v) budget q)
         go true false true o p q r s = contained (looks p q) (record { contained = r })
         go true false false true p q r s = apart (looks p q) (record { outside = r; apart = s })
         go true false false false p q r s = across (looks p q) (record { outside = r; meeting = s })
 
-    -- each step by what it says
-    step-is : (piece : Curve) (v : Verdict) (f i o : Bool) →
+    -- each visit by what it says
+    visit-is : (piece : Curve) (v : Verdict) (f i o : Bool) →
         Going v → eqb (countOf v) budget ≡ f → inBox (bounded piece .rect) box ≡ i → apartFrom (bounded piece .rect) box ≡ o →
-        stepAt box budget piece v ≡ stepBy true f i o
-    unfolding stepAt
-    step-is piece v f i o g p q r = rw (going-on g, p, q, r)
+        visitAt box budget piece v ≡ visitBy true f i o
+    unfolding visitAt
+    visit-is piece v f i o g p q r = rw (going-on g, p, q, r)
 
-    pub step-ended : (piece : Curve) (v : Verdict) → goesOn v ≡ false → stepAt box budget piece v ≡ Ended
-    unfolding stepAt
-    step-ended piece v e = rw e
+    pub visit-ended : (piece : Curve) (v : Verdict) → goesOn v ≡ false → visitAt box budget piece v ≡ Ended
+    unfolding visitAt
+    visit-ended piece v e = rw e
 
-    pub step-exhausted : (piece : Curve) (v : Verdict) → Going v → countOf v ≡ budget → stepAt box budget piece v ≡ Exhausted
-    step-exhausted piece v g e = step-is piece v true _ _ g (eq-eqb (countOf v) budget e) refl refl
+    pub visit-exhausted : (piece : Curve) (v : Verdict) → Going v → countOf v ≡ budget → visitAt box budget piece v ≡ Exhausted
+    visit-exhausted piece v g e = visit-is piece v true _ _ g (eq-eqb (countOf v) budget e) refl refl
 
-    pub step-contained : (piece : Curve) (v : Verdict) → Looks budget v → Within piece → stepAt box budget piece v ≡ Contained
-    step-contained piece v l w = step-is piece v false true _ (l .going) (ne-eqb (countOf v) budget (l .below)) (w .contained) refl
+    pub visit-contained : (piece : Curve) (v : Verdict) → Looks budget v → Within piece → visitAt box budget piece v ≡ Contained
+    visit-contained piece v l w = visit-is piece v false true _ (l .going) (ne-eqb (countOf v) budget (l .below)) (w .contained) refl
 
-    pub step-apart : (piece : Curve) (v : Verdict) → Looks budget v → Separate piece → stepAt box budget piece v ≡ Apart
-    step-apart piece v l w = step-is piece v false false true (l .going) (ne-eqb (countOf v) budget (l .below)) (w .outside) (w .apart)
+    pub visit-apart : (piece : Curve) (v : Verdict) → Looks budget v → Separate piece → visitAt box budget piece v ≡ Apart
+    visit-apart piece v l w = visit-is piece v false false true (l .going) (ne-eqb (countOf v) budget (l .below)) (w .outside) (w .apart)
 
-    pub step-across : (piece : Curve) (v : Verdict) → Looks budget v → Crossing piece → stepAt box budget piece v ≡ Across
-    step-across piece v l w = step-is piece v false false false (l .going) (ne-eqb (countOf v) budget (l .below)) (w .outside) (w .meeting)
+    pub visit-across : (piece : Curve) (v : Verdict) → Looks budget v → Crossing piece → visitAt box budget piece v ≡ Across
+    visit-across piece v l w = visit-is piece v false false false (l .going) (ne-eqb (countOf v) budget (l .below)) (w .outside) (w .meeting)
 
     -- what follows across the edge
     unfoldable pub further : ℕ → Curve → ℕ → ℕ → Verdict → Verdict
@@ -114,17 +114,17 @@ module _ (box : Rect) where
 
     walked-is :
         (below : ℕ) (piece : Curve) (depth index : ℕ) (v : Verdict) →
-        walked box budget below piece depth index v ≡ after (stepAt box budget piece v) depth index v (further below piece depth index)
+        walked box budget below piece depth index v ≡ after (visitAt box budget piece v) depth index v (further below piece depth index)
     unfolding walked further
     walked-is zero piece depth index v = refl
     walked-is (suc below) piece depth index v = refl
 
-    -- the walk after a step that is known
+    -- the walk after a visit that is known
     pub walked-by :
-        (below : ℕ) (piece : Curve) (depth index : ℕ) (v : Verdict) (s : Step) → stepAt box budget piece v ≡ s →
+        (below : ℕ) (piece : Curve) (depth index : ℕ) (v : Verdict) (s : Visit) → visitAt box budget piece v ≡ s →
         after s depth index v (further below piece depth index) ≡ walked box budget below piece depth index v
     walked-by below piece depth index v s e =
-        sym (walked-is below piece depth index v ∙ ap (λ (t : Step). after t depth index v (further below piece depth index)) e)
+        sym (walked-is below piece depth index v ∙ ap (λ (t : Visit). after t depth index v (further below piece depth index)) e)
 
     -- at the depth limit, and above it
     pub further-limit : (below : ℕ) (piece : Curve) (depth index : ℕ) (v : Verdict) → below ≡ 0 → noted depth index v ≡ further below piece depth index v
@@ -168,17 +168,17 @@ module _ (box : Rect) where
         (m : ℕ) (piece : Curve) (d i : ℕ) (v : Verdict) → P m piece d i v (walked box budget m piece d i v)
     unfolding walked further
     walk-keeps P r zero piece d i v =
-        by-step (λ s. P 0 piece d i v (after s d i v (further 0 piece d i))) piece v
+        by-visit (λ s. P 0 piece d i v (after s d i v (further 0 piece d i))) piece v
         (r .ended 0 piece d i v) (r .exhausted 0 piece d i v) (r .contained 0 piece d i v) (r .apart 0 piece d i v) (r .limit piece d i v)
     walk-keeps P r (suc m) piece d i v =
-        by-step (λ s. P (suc m) piece d i v (after s d i v (further (suc m) piece d i))) piece v
+        by-visit (λ s. P (suc m) piece d i v (after s d i v (further (suc m) piece d i))) piece v
         (r .ended (suc m) piece d i v) (r .exhausted (suc m) piece d i v) (r .contained (suc m) piece d i v) (r .apart (suc m) piece d i v)
         (λ l o. r .halves m piece d i v l o _ _ refl refl
         (walk-keeps P r m (subdivided piece 1 2 .left) (d + 1) (i * 2) (looked v))
         (walk-keeps P r m (subdivided piece 1 2 .right) (d + 1) (i * 2 + 1) _))
 
-    -- a step that looks is taken by a walk that looks
-    pub step-looks : (piece : Curve) (v : Verdict) (s : Step) → stepAt box budget piece v ≡ s → T (looksAt s) → Looks budget v
-    step-looks piece v s e =
-        subst (λ (t : Step). T (looksAt t) → Looks budget v) e
-        (by-step (λ t. T (looksAt t) → Looks budget v) piece v (λ p t. absurd t) (λ p q t. absurd t) (λ l h t. l) (λ l h t. l) (λ l h t. l))
+    -- a visit that looks is made by a walk that looks
+    pub visit-looks : (piece : Curve) (v : Verdict) (s : Visit) → visitAt box budget piece v ≡ s → T (looksAt s) → Looks budget v
+    visit-looks piece v s e =
+        subst (λ (t : Visit). T (looksAt t) → Looks budget v) e
+        (by-visit (λ t. T (looksAt t) → Looks budget v) piece v (λ p t. absurd t) (λ p q t. absurd t) (λ l h t. l) (λ l h t. l) (λ l h t. l))

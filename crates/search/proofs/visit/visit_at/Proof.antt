@@ -1,4 +1,4 @@
--- `step_at` meets its contract: each test is the definition's.
+-- `visit_at` meets its contract: each test is the definition's.
 -- Assumes nothing.
 use mathlib.Core.Path.{_≡_, sym, ap, _∙_}
 use mathlib.Core.Bool.{true, false}
@@ -8,15 +8,15 @@ use lib.Dec.{eqb}
 use Rattle.curve.specs.declared.Enclosure.{Enclosure}
 use Rattle.curve.specs.Calls.{bounded}
 use Rattle.search.specs.Box.{inBox, apartFrom}
-use Rattle.search.specs.Walk.{goesOn, countOf, stepAt}
-use Rattle.search.proofs.step.step_at.Statement.{statement}
-use Rattle.search.proofs.step.step_at.Tie as tie
+use Rattle.search.specs.Walk.{goesOn, countOf, visitAt}
+use Rattle.search.proofs.visit.visit_at.Statement.{statement}
+use Rattle.search.proofs.visit.visit_at.Tie as tie
 
 goes-on-requires : tie.Need-goes-on-requires
 goes-on-requires c κs = search needs
 
 returns : tie.Need-returns
-unfolding stepAt
+unfolding visitAt
 returns c = rw (sym (c .before .goes-on .ensures) ∙ not-true (c .before .goes-on .result) (c .if1 .taken))
 
 count-of-requires : tie.Need-count-of-requires
@@ -27,7 +27,7 @@ on : (c : tie.Else1) → goesOn (c .before .before .args .before) ≡ true
 on c = sym (c .before .goes-on .ensures) ∙ not-false (c .before .goes-on .result) (c .if1 .left)
 
 returns-2 : tie.Need-returns-2
-unfolding stepAt
+unfolding visitAt
 returns-2 c =
     let a = c .before .before .before .before .args in
     rw (on (c .before .before), eq-eqb (countOf (a .before)) (a .budget) (sym (c .before .count-of .ensures) ∙ c .if2 .taken))
@@ -56,7 +56,7 @@ in-box-requires : tie.Need-in-box-requires
 in-box-requires c κs = search needs
 
 returns-3 : tie.Need-returns-3
-unfolding stepAt
+unfolding visitAt
 returns-3 c =
     let e = c .before .before .before .before in
     rw (on (e .before .before), below e, sym (span-in (c .before)) ∙ c .if3 .taken)
@@ -65,19 +65,19 @@ apart-from-requires : tie.Need-apart-from-requires
 apart-from-requires c κs = search needs
 
 returns-4 : tie.Need-returns-4
-unfolding stepAt
+unfolding visitAt
 returns-4 c =
     let e = c .before .before .before .before .before .before in
     rw (on (e .before .before), below e, sym (span-in (c .before .before .before)) ∙ c .before .before .if3 .left, sym (span-apart (c .before)) ∙ c .if4 .taken)
 
 returns-5 : tie.Need-returns-5
-unfolding stepAt
+unfolding visitAt
 returns-5 c =
     let e = c .before .before .before .before .before .before in
     rw (on (e .before .before), below e, sym (span-in (c .before .before .before)) ∙ c .before .before .if3 .left, sym (span-apart (c .before)) ∙ c .if4 .left)
 
-pub step-at-spec : {M : Type 1} → statement M
-step-at-spec =
+pub visit-at-spec : {M : Type 1} → statement M
+visit-at-spec =
     tie.close
     (tie.spec
     goes-on-requires

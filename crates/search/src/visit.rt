@@ -1,6 +1,6 @@
 // What becomes of a piece that is due: the rules of the walk in their order.
 ghost use mathlib.Core.Path.{_≡_};
-ghost use Rattle.search.specs.Walk.{stepAt};
+ghost use Rattle.search.specs.Walk.{visitAt};
 use crate::Verdict;
 use crate::boxes::apart_from;
 use crate::boxes::in_box;
@@ -10,7 +10,7 @@ use curve::Curve;
 use curve::Rect;
 
 // The walk has ended before the piece, or its budget is spent; or the piece's span lies in the box, is apart from it, or neither.
-pub enum Step {
+pub enum Visit {
     Ended,
     Exhausted,
     Contained,
@@ -18,21 +18,21 @@ pub enum Step {
     Across,
 }
 
-pub fn step_at(piece: Curve, limits: Rect, budget: u32, before: Verdict) -> Step
-    ensures { λ r. ⌜ r ≡ stepAt limits budget piece before ⌝ }
+pub fn visit_at(piece: Curve, limits: Rect, budget: u32, before: Verdict) -> Visit
+    ensures { λ r. ⌜ r ≡ visitAt limits budget piece before ⌝ }
 {
     if !goes_on(before) {
-        return Step::Ended;
+        return Visit::Ended;
     }
     if count_of(before) == budget {
-        return Step::Exhausted;
+        return Visit::Exhausted;
     }
     let span = curve::bounds(piece).rect;
     if in_box(span, limits) {
-        return Step::Contained;
+        return Visit::Contained;
     }
     if apart_from(span, limits) {
-        return Step::Apart;
+        return Visit::Apart;
     }
-    Step::Across
+    Visit::Across
 }
