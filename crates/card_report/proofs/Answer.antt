@@ -21,7 +21,7 @@ use Rattle.card_text.specs.Card.{row}
 use Rattle.card_text.specs.Reading.{readCard}
 use Rattle.card_text.proofs.Fitting.{row-long}
 use Rattle.card_text.proofs.Places.{card-within}
-use Rattle.card_text.proofs.Promises.{read-refusal}
+use Rattle.card_text.proofs.ReadingAnswer.{read-refusal}
 use Rattle.card_report.specs.Report.{mostBytes, curveLines, refusalLine, shown, mostShown}
 
 -- ---- lengths

@@ -1,18 +1,14 @@
--- Laws of the definitions in specs/, and the promises.
+-- Laws of the definitions in specs/.
 pub mod Accepting
-pub mod CardReads
 pub mod Degree
 pub mod Entry
 pub mod Fitting
 pub mod Header
 pub mod Limited
 pub mod LimitedCurve
-pub mod LinesRead
-pub mod LinesStand
 pub mod Places
 pub mod ReadingAnswer
 pub mod RowsRead
 pub mod Stands
 pub mod Widened
 pub mod WritingAnswer
-pub mod Promises

@@ -1,7 +1,7 @@
--- The reader's answer by whether the card is refused, and its refusal once the first line is accepted.
+-- The reader's answer by whether the card is refused, its refusal once the first line is accepted, and what it is where nothing is refused.
 -- Assumes nothing.
-use mathlib.Core.Path.{_≡_, sym, ap, _∙_}
-use mathlib.Core.Bool.{Bool, cond}
+use mathlib.Core.Path.{_≡_, refl, sym, ap, _∙_, subst}
+use mathlib.Core.Bool.{Bool, true, false, cond}
 use mathlib.Core.List.{List}
 use Prim.Native.Nat.{ℕ, _+_, _≤_}
 use lib.Dec.{eqb}
@@ -10,7 +10,8 @@ use borrow.Author.Tests.{eq-eqb, ne-eqb, eqb-true}
 use Rattle.curve.specs.declared.Refusal.{Refusal}
 use Rattle.curve.specs.Limits.{maxDegree}
 use Rattle.curve.specs.Curve.{zeroCurve}
-use Rattle.curve.specs.Refusals.{_orElse_, degreeRefusal, rangeRefusal, orderRefusal, curveRefusal}
+use Rattle.curve.specs.Refusals.{_orElse_, degreeRefusal, rangeRefusal, orderRefusal, curveRefusal, Accepted}
+use Rattle.curve.proofs.Accepted.{number-accepted}
 use Rattle.curve.proofs.Refused.{or-first, or-second}
 use Rattle.curve.proofs.Tests.{or-split}
 use Rattle.card_text.specs.declared.CardRead.{CardRead}
@@ -75,3 +76,35 @@ module _ (bytes : List ℕ) where
 
   pub read-accepted : {r : Refusal} → r ≡ cardRefusal bytes → r .number ≡ 0 → record { refusal = r; curve = decoded bytes } ≡ readCard bytes
   read-accepted {r} e none = ap (λ (b : Bool). chosen b r) (sym (eq-eqb (r .number) 0 none)) ∙ to-answer e
+
+  -- what holds of the answer wherever it holds of both cases
+  pub either : (F : CardRead → Type 0) → F (chosen true (cardRefusal bytes)) → F (chosen false (cardRefusal bytes)) → F (readCard bytes)
+  unfolding readCard
+  either F yes? no? = by (eqb (cardRefusal bytes .number) 0)
+    where
+      by : (b : Bool) → F (chosen b (cardRefusal bytes))
+      by true = yes?
+      by false = no?
+
+  pub read-refusal : readCard bytes .refusal ≡ cardRefusal bytes
+  read-refusal = either (λ r. r .refusal ≡ cardRefusal bytes) refl refl
+
+  -- a card that is not refused: its first line, its other lines, and its curve
+  module _ (h : readCard bytes .refusal .number ≡ 0) where
+    zero-all : cardRefusal bytes .number ≡ 0
+    zero-all = subst (λ (r : Refusal). r .number ≡ 0) read-refusal h
+
+    pub zero-first : headerRefusal bytes .number ≡ 0
+    unfolding cardRefusal
+    zero-first = or-split (headerRefusal bytes) laterLines zero-all .0
+
+    pub zero-later : (rowsRefusal bytes (decoded bytes .degree + 1) .number ≡ 0) × (curveRefusal (decoded bytes) .number ≡ 0)
+    zero-later =
+        or-split (rowsRefusal bytes (decoded bytes .degree + 1)) (curveRefusal (decoded bytes))
+        (subst (λ (r : Refusal). r .number ≡ 0) (card-later zero-first) zero-all)
+
+    pub read-curve : readCard bytes .curve ≡ decoded bytes
+    read-curve = ap (λ (r : CardRead). r .curve) (sym (read-accepted refl zero-all))
+
+    pub read-curve-accepted : Accepted (readCard bytes .curve)
+    read-curve-accepted = subst Accepted (sym read-curve) (number-accepted (decoded bytes) (zero-later .1))

@@ -1,5 +1,4 @@
 pub mod Card
 pub mod Reading
 pub mod Writing
-pub mod Promises
 pub mod Inner

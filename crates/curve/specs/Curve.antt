@@ -30,6 +30,10 @@ pointsOf n f = tabulate places (λ k. cond (leb k n) (f k) zeroRect)
 abbrev pub curveOf : ℕ → ℕ → (ℕ → Rect) → Curve
 curveOf n s f = record { degree = n; sum = s; points = pointsOf n f }
 
+-- the curve with another sum
+abbrev pub withSum : ℕ → Curve → Curve
+withSum s c = record { degree = c .degree; sum = s; points = c .points }
+
 abbrev pub zeroCurve : Curve
 zeroCurve = curveOf 0 0 (λ k. zeroRect)
 

@@ -258,6 +258,11 @@ examples =
     ∷ (refusalShown (searched (summedLine 65535) smallBox 1 0 .refusal) gives pos 9 ∷ pos 0 ∷ [])
     ∷ (choiceShown (chosen (summedLine 65535) (fitted ∷ []) 0 5) gives pos 0 ∷ pos 0 ∷ pos fitting ∷ pos 0 ∷ pos 7 ∷ [])
     ∷ (choiceShown (chosen (summedLine 65535) (fitted ∷ []) 1 5) gives pos 17 ∷ pos 0 ∷ pos 0 ∷ pos 0 ∷ pos 0 ∷ [])
+    -- at degree 2 and depth 12 a sum of 65,511 is accepted and 65,512 is a 17, for a walk and for a list of settings
+    ∷ (verdictShown (searched (summedValues 2 65511 []) smallBox 12 5 .verdict) gives pos inside ∷ pos 0 ∷ pos 0 ∷ pos 1 ∷ [])
+    ∷ (refusalShown (searched (summedValues 2 65512 []) smallBox 12 5 .refusal) gives pos 17 ∷ pos 0 ∷ [])
+    ∷ (choiceShown (chosen (summedValues 2 65511 []) (fitted ∷ []) 12 5) gives pos 0 ∷ pos 0 ∷ pos fitting ∷ pos 0 ∷ pos 7 ∷ [])
+    ∷ (choiceShown (chosen (summedValues 2 65512 []) (fitted ∷ []) 12 5) gives pos 17 ∷ pos 0 ∷ pos 0 ∷ pos 0 ∷ pos 0 ∷ [])
     -- both readings and bounds are not refused by it
     ∷ (evaluationShown (evaluated (summedLine 65535) 1 2) gives pos 0 ∷ pos 0 ∷ pos 2 ∷ pos 2 ∷ pos 0 ∷ pos 0 ∷ [])
     ∷ (evaluationShown (evaluatedSixteenths (summedLine 65535) 8) gives pos 0 ∷ pos 0 ∷ pos 2 ∷ pos 2 ∷ pos 0 ∷ pos 0 ∷ [])

@@ -25,7 +25,7 @@ use Rattle.card_text.specs.declared.CardWritten.{CardWritten}
 use Rattle.card_text.specs.Card.{headerLength, cardLength, rowAt}
 use Rattle.card_text.specs.Reading.{wellFormed, decoded, columnRefusal, lineEndRefusal, endsRefusal, rowRefusal, rowsRefusal, shortRefusal, lengthRefusal, headerRefusal, cardRefusal}
 use Rattle.card_text.specs.Writing.{writingRefusal, writeCard}
-use Rattle.card_text.proofs.Promises.{read-refusal}
+use Rattle.card_text.proofs.ReadingAnswer.{read-refusal}
 use Rattle.search.specs.Limits.{maxDepth, maxBudget}
 use Rattle.search.specs.Box.{isBox}
 use Rattle.search.specs.Search.{deepestSum, effortRefusal, boxRefusal, searchRefusal}

@@ -20,8 +20,7 @@ use Rattle.curve.proofs.Accepted.{accepted-facts, parameter-facts, number-accep
 use Rattle.curve.proofs.Answers.{evaluated-accepted, evaluated-refusal, subdivided-accepted, subdivided-refusal, elevated-accepted, elevated-refusal}
 use Rattle.curve.proofs.Pieces.{left-accepted, right-accepted, elevatedOf-accepted, left-degree, right-degree, elevated-degree, left-sum, right-sum, elevated-sum}
 use Rattle.sixteenths.specs.Weights.{sixteenths}
-use Rattle.sixteenths.proofs.Answers.{number-numerator, refusal-numerator, summed-accepted, summed-refusal}
-use Rattle.sixteenths.proofs.Promises.{sixteenth-accepted}
+use Rattle.sixteenths.proofs.Answers.{number-numerator, sixteenth-accepted, refusal-numerator, summed-accepted, summed-refusal}
 use Rattle.ledger.specs.Ordinary.{Ordinary, InsideOf}
 use Rattle.ledger.specs.Ledger as Book
 use Rattle.ledger.specs.Ledger.{Ledger, Call, evaluate, evaluateSixteenths, subdivide, elevate, left, right, opened, parameter, placeOf, subdividedSum, refused, entered, after, refusalOf, answerOf, leaves}

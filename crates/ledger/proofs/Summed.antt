@@ -25,9 +25,8 @@ use Rattle.curve.proofs.Accepted.{parameter-facts}
 use Rattle.curve.proofs.Points.{sides}
 use Rattle.sixteenths.specs.Weights.{sixteenths}
 use Rattle.sixteenths.specs.Sixteenths.{sumOf, summedSide, sideExact, summedExact}
-use Rattle.sixteenths.proofs.Answers.{summed-accepted}
+use Rattle.sixteenths.proofs.Answers.{sixteenth-accepted, summed-accepted, summed-lit}
 use Rattle.sixteenths.proofs.Loads.{side-summed}
-use Rattle.sixteenths.proofs.Promises.{sixteenth-accepted, lit-accepted}
 use Rattle.ledger.specs.Ordinary.{exactSide}
 use Rattle.ledger.specs.Ledger.{parameter}
 use Rattle.ledger.specs.Promises.{SumIsExact, LessThanAStep, WithinAStep, ExactSum}
@@ -134,7 +133,7 @@ lit-side c j lit x r = go x r (and-both (sideExact c j resistance down && sideEx
 
 pub exact-sum : ExactSum
 exact-sum c j flag x r =
-    let (ok, most) = lit-accepted c j flag in
+    let (ok, most) = summed-lit c j flag in
     let answer = summed-accepted c j ok most in
     let lit : summedExact c j ≡ true = sym (ap (λ (e : Evaluation). e .exact) answer) ∙ flag in
     equal-of (whole (side x r _)) (exactSide c x r (parameter j sixteenths))

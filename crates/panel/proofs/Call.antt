@@ -16,12 +16,12 @@ use Rattle.curve.proofs.Accepted.{number-accepted-at, call-parameter}
 use Rattle.curve.proofs.Answers.{evaluated-refusal}
 use Rattle.card_text.specs.Reading.{cardRefusal, readCard}
 use Rattle.card_text.proofs.Accepting.{unless-zero}
-use Rattle.card_text.proofs.Promises.{read-refusal, read-is-written}
+use Rattle.card_text.proofs.ReadingAnswer.{read-refusal, read-curve-accepted}
 use Rattle.panel.specs.Panel.{loadBytes, loadLength, panelRefusal, panelLoad, panelBytes}
 
 -- the curve of a card that is not refused is accepted
 pub card-accepted : (card : List ℕ) → cardRefusal card .number ≡ 0 → Accepted (readCard card .curve)
-card-accepted card h = read-is-written card (number-passed (sym (read-refusal card)) h) .accepted
+card-accepted card h = read-curve-accepted card (number-passed (sym (read-refusal card)) h)
 
 module _ (card : List ℕ) (num den : ℕ) where
   -- so evaluation refuses the parameter alone

@@ -21,7 +21,7 @@ use Rattle.curve.proofs.Loads.{load-held}
 use Rattle.curve.proofs.Refused.{number-passed}
 use Rattle.curve.proofs.Sides.{side-fits}
 use Rattle.card_text.specs.Reading.{readCard}
-use Rattle.card_text.proofs.Promises.{read-refusal}
+use Rattle.card_text.proofs.ReadingAnswer.{read-refusal}
 use Rattle.panel.specs.Panel.{bitsOf, sideBytes, intervalBytes, loadBytes, loadLength, panelRefusal, panelLoad, panelBytes}
 use Rattle.panel.specs.Promises.{bitsAt, signedOf, offset, PanelAnswers, PanelBytes, PanelKeeps}
 use Rattle.panel.proofs.Bits.{bits-small}

@@ -3,7 +3,7 @@
 use mathlib.Core.Path.{ap}
 use Rattle.curve.specs.declared.Refusal.{Refusal}
 use Rattle.card_text.specs.Reading.{readCard}
-use Rattle.card_text.proofs.Promises.{read-is-written, read-sum}
+use Rattle.card_text_promises.proofs.Promises.{read-is-written, read-sum}
 use Rattle.running_error.specs.Card.{CardSumIsTrue}
 use Rattle.running_error.proofs.SumIsTrue.{sum-is-true}
 

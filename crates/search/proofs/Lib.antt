@@ -1,15 +1,6 @@
--- Laws of the definitions in specs/, and the promises.
+-- Laws of the definitions in specs/.
 pub mod Visits
 pub mod Counts
 pub mod Due
 pub mod Accepted
 pub mod InsideWalk
-pub mod Budget
-pub mod Named
-pub mod Reached
-pub mod Dyadic
-pub mod Laid
-pub mod Loads
-pub mod Meaning
-pub mod PastUnread
-pub mod SumUnmet

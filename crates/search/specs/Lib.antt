@@ -4,5 +4,3 @@ pub mod Box
 pub mod Walk
 pub mod Search
 pub mod Inner
-pub mod Pieces
-pub mod Promises

@@ -17,14 +17,14 @@ use curve::sum_refusal;
 
 mod boxes;
 mod inside;
-mod visit;
 mod verdicts;
+mod visit;
 
-use visit::Visit;
-use visit::visit_at;
 use verdicts::count_of;
 use verdicts::looked;
 use verdicts::noted;
+use visit::Visit;
+use visit::visit_at;
 
 // How a span lies to a box, and the check of a box by itself.
 pub use boxes::apart_from;

@@ -1,7 +1,5 @@
--- Laws of the definitions in specs/, and the promises.
+-- Laws of the definitions in specs/.
 pub mod Steps
 pub mod Refused
 pub mod Answers
 pub mod Going
-pub mod Searching
-pub mod Promises

@@ -2,4 +2,3 @@ pub mod Limits
 pub mod Choice
 pub mod Settings
 pub mod Inner
-pub mod Promises

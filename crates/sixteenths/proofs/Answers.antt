@@ -1,17 +1,18 @@
 -- What it means that the summed reading is not refused, and its answer by whether it is.
 -- Assumes nothing.
-use mathlib.Core.Path.{_≡_, refl, _∙_}
+use mathlib.Core.Path.{_≡_, refl, sym, ap, _∙_, subst}
 use mathlib.Core.Bool.{true, false, _&&_}
 use Prim.Native.Nat.{ℕ, _+_, _≤_}
 use native.Mathlib.Omega.{arith}
 use borrow.Author.Tests.{leb-true, le-leb}
-use lib.Dec.{leb, eqb, leb→le, le→leb}
+use lib.Dec.{T, leb, eqb, leb→le, le→leb}
 use Rattle.rational.proofs.Truth.{and-both, both-and}
 use Rattle.bernstein.proofs.EveryMap.{all-at, all-of}
 use Rattle.curve.specs.declared.Curve.{Curve}
 use Rattle.curve.specs.declared.Evaluation.{Evaluation}
 use Rattle.curve.specs.Curve.{point}
-use Rattle.curve.specs.Refusals.{none, curveRefusal, Accepted}
+use Rattle.curve.specs.Refusals.{none, curveRefusal, parameterRefusal, Accepted, AcceptedAt}
+use Rattle.curve.proofs.Refused.{by-number}
 use Rattle.curve.proofs.Tests.{or-split, or-none, unless-holds, unless-none}
 use Rattle.curve.proofs.Accepted.{goodAt, tests-facts, facts-degree, facts-good, facts-accepted, number-accepted, accepted-facts}
 use Rattle.curve.proofs.Answers.{evaluation, noEvaluation, where-none, where-some, in-both}
@@ -26,6 +27,11 @@ number-numerator j h = leb→le j sixteenths (unless-holds (leb j sixteenths) 14
 numerator-none : (j : ℕ) → j ≤ sixteenths → numeratorRefusal j ≡ none
 unfolding numeratorRefusal
 numerator-none j h = unless-none (leb j sixteenths) 15 (le→leb j sixteenths h)
+
+-- the staged reading at j/16 is accepted where the summed one is
+pub sixteenth-accepted : (j : ℕ) → j ≤ sixteenths → AcceptedAt j sixteenths
+unfolding parameterRefusal
+sixteenth-accepted j h = unless-none (leb j sixteenths) 5 (le→leb j sixteenths h)
 
 module _ (c : Curve) (j : ℕ) where
   pub number-facts : sixteenthsRefusal c j .number ≡ 0 → Accepted c × (j ≤ sixteenths)
@@ -51,6 +57,11 @@ module _ (c : Curve) (j : ℕ) where
   pub summed-refusal : evaluatedSixteenths c j .refusal ≡ sixteenthsRefusal c j
   unfolding evaluatedSixteenths
   summed-refusal = in-both (evaluation (summedLoad c j) (summedExact c j)) noEvaluation (sixteenthsRefusal c j) (λ (e : Evaluation). e .refusal) (sixteenthsRefusal c j) refl refl
+
+  pub summed-lit : evaluatedSixteenths c j .exact ≡ true → Accepted c × (j ≤ sixteenths)
+  summed-lit lit =
+      by-number (sixteenthsRefusal c j .number) number-facts
+      (λ e. absurd (subst T (sym lit ∙ ap (λ (x : Evaluation). x .exact) (summed-refused e)) tt))
 
   -- ---- the tests of one pass
 

@@ -1,4 +1,4 @@
--- Laws of the definitions in specs/, and the promises.
+-- Laws of the definitions in specs/.
 pub mod Table
 pub mod Lifted
 pub mod Blocks
@@ -8,5 +8,4 @@ pub mod Summing
 pub mod Reading
 pub mod Answers
 pub mod Loads
-pub mod Promises
 pub mod Passes

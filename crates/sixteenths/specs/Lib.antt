@@ -1,4 +1,3 @@
 pub mod Weights
 pub mod Sixteenths
-pub mod Promises
 pub mod Inner

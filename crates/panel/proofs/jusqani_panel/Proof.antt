@@ -15,7 +15,7 @@ use Rattle.card_text.specs.declared.CardRead.{CardRead}
 use Rattle.card_text.specs.Reading.{cardRefusal, readCard}
 use Rattle.columns.specs.Line.{placed}
 use Rattle.columns.proofs.Placed.{placed-front}
-use Rattle.card_text.proofs.Promises.{read-refusal}
+use Rattle.card_text.proofs.ReadingAnswer.{read-refusal}
 use Rattle.panel.specs.Panel.{loadBytes, panelLoad}
 use Rattle.panel.proofs.Call.{refusal-read, refused-card, refused-parameter, refused-short, refused-none, refused, written}
 use Rattle.panel.proofs.Lengths.{load-long}

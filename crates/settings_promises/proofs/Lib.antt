@@ -1,0 +1,3 @@
+-- Laws that the promises stand on, and the promises.
+pub mod Searching
+pub mod Promises

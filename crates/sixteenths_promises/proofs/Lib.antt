@@ -1,0 +1,3 @@
+-- The promises.
+pub mod Promises
+pub mod Entries
