@@ -6,7 +6,7 @@
  * reactance low, reactance high.
  *
  * A curve that a call is given is its degree n, its sum of steps and its sides, four for each of the rectangles 0 to n.
- * Sides that the buffer does not have count as zero, and sides past rectangle n are not read. A call without a
+ * A side that the buffer does not have is out of range, and sides past rectangle n are not read. A call without a
  * parameter sum never looks at the sum. A curve that a call gives is JUSQANI_CURVE_LENGTH(n) numbers: its degree, its
  * sum, then its sides; so `curve[0]`, `curve[1]`, `curve + 2` and JUSQANI_CURVE_LENGTH(n) - 2 hand it to the next call.
  *
@@ -154,7 +154,7 @@ uint64_t jusqani_bounds(uint32_t degree, const int32_t *sides, size_t sides_leng
 
 /*
  * Decides whether the curve stays in a box, by cutting it into pieces none deeper than depth and looking at no more
- * than budget of them. The box is four sides; those that the buffer does not have count as zero, so fewer than three
+ * than budget of them. The box is four sides; one that the buffer does not have is out of range, so fewer than four
  * are always a 7. Its low sides lie inside it and its high sides outside: a high side is the first value not allowed.
  * Four numbers are stored in verdict: which verdict (1 Inside, 2 Outside, 3 Spent, 4 Undecided), the depth and the
  * index of the piece that Outside and Undecided name (0 and 0 for the others), and the number of pieces looked at.

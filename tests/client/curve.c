@@ -30,14 +30,14 @@ static const char *flag_word(uint32_t exact)
     return exact <= 1 ? words[exact] : NULL;
 }
 
-/* The refusal of a curve with such a first rectangle and zeros behind it, at 17/16 and with no room for a load. */
+/* The refusal of a curve with such a first rectangle and a zero one behind it, at 17/16 and with no room for a load. */
 static uint32_t refused_past_the_end(uint32_t degree, int32_t low, int32_t high)
 {
-    const int32_t sides[JUSQANI_RECT_LENGTH] = {low, high, low, high};
+    const int32_t sides[2 * JUSQANI_RECT_LENGTH] = {low, high, low, high};
     int32_t load[1];
     float ohms[1];
     uint32_t exact = UNTOUCHED;
-    uint64_t answer = jusqani_evaluate_sixteenths(degree, sides, JUSQANI_RECT_LENGTH, 17, load, 0, ohms, 0, &exact);
+    uint64_t answer = jusqani_evaluate_sixteenths(degree, sides, 2 * JUSQANI_RECT_LENGTH, 17, load, 0, ohms, 0, &exact);
     require(exact == UNTOUCHED, "a refused call leaves the flag as it was");
     return JUSQANI_NUMBER(answer);
 }
@@ -49,6 +49,17 @@ static void check_order(void)
     require(refused_past_the_end(1, 0, 16777217) == 2, "a side out of range is refused before j");
     require(refused_past_the_end(1, 1, 0) == 3, "a low side above its high side is refused before j");
     require(refused_past_the_end(1, 0, 0) == 15, "j is refused before the room for the load");
+}
+
+/* A side that the buffer lacks is out of range, at its rectangle. */
+static void check_lacking(void)
+{
+    static const int32_t sides[2 * JUSQANI_RECT_LENGTH];
+    int32_t rect[JUSQANI_RECT_LENGTH];
+    for (size_t length = 0; length < 2 * JUSQANI_RECT_LENGTH; length++)
+        require(jusqani_bounds(1, sides, length, rect, JUSQANI_RECT_LENGTH)
+                    == ((uint64_t)(length / JUSQANI_RECT_LENGTH) << 32 | 2),
+                "a missing side is out of range");
 }
 
 /* Cuts a curve of degree 8 with such a sum in the middle, with so much room for each piece; checks what is stored. */
@@ -113,6 +124,7 @@ static void check_handing_on(void)
 static void check_calls(void)
 {
     check_order();
+    check_lacking();
     check_sums();
     check_handing_on();
 }

@@ -23,8 +23,9 @@
 /* What the buffer holds before a call; no call stores it. */
 #define FILL UINT32_MAX
 
-/* The verdict of a walk that finds every load in the box. */
+/* The verdicts of a walk that finds every load in the box, and that finds a piece without one there. */
 #define INSIDE 1
+#define OUTSIDE 2
 
 /* The record's layout, as the header states it and the library reads it. */
 _Static_assert(sizeof(struct jusqani_setting) == 20, "a setting has 20 bytes");
@@ -59,15 +60,15 @@ static int kept(const uint32_t *choice, size_t from)
     return from == MAX_CHOICE;
 }
 
-/* The refusal of a list of so many records without a box, for a curve with such a first rectangle and zeros behind it,
- * too deep, without a budget, with the greatest sum and with no room for a choice. */
+/* The refusal of a list of so many records without a box, for a curve with such a first rectangle and a zero one
+ * behind it, too deep, without a budget, with the greatest sum and with no room for a choice. */
 static uint32_t refused_all(size_t count, uint32_t degree, int32_t low, int32_t high)
 {
     static const struct jusqani_setting no_boxes[JUSQANI_MAX_SETTINGS + 1];
-    const int32_t sides[JUSQANI_RECT_LENGTH] = {low, high, low, high};
+    const int32_t sides[2 * JUSQANI_RECT_LENGTH] = {low, high, low, high};
     uint32_t choice[MAX_CHOICE] = {FILL, FILL, FILL, FILL, FILL, FILL};
     uint64_t answer =
-        jusqani_choose_setting(degree, UINT16_MAX, sides, JUSQANI_RECT_LENGTH, no_boxes, count, 13, 0, choice, 0);
+        jusqani_choose_setting(degree, UINT16_MAX, sides, 2 * JUSQANI_RECT_LENGTH, no_boxes, count, 13, 0, choice, 0);
     require(kept(choice, 0), "a refused call changes nothing");
     return JUSQANI_NUMBER(answer);
 }
@@ -82,6 +83,21 @@ static void check_order(void)
     require(refused_all(64, 1, 1, 16777217) == 2, "a side out of range is refused before a box");
     require(refused_all(64, 1, 1, 0) == 3, "a low side above its high side is refused before a box");
     require(refused_all(64, 1, 0, 0) == 7, "a box is refused before depth, budget, sum and the room for the choice");
+}
+
+/* A box that lacks a side is refused, though with a zero there it would hold the curve. */
+static void check_lacking(void)
+{
+    static const int32_t sides[] = {51200, 51200, -1, -1, 51200, 51200, -1, -1};
+    static const int32_t limits[] = {0, 60000, -10, -5};
+    uint32_t verdict[JUSQANI_VERDICT_LENGTH] = {FILL};
+    for (size_t length = 0; length < JUSQANI_RECT_LENGTH; length++)
+        require(jusqani_search(1, 0, sides, 8, limits, length, 12, 8191, verdict, JUSQANI_VERDICT_LENGTH) == 7
+                    && verdict[0] == FILL,
+                "a box that lacks a side is refused");
+    require(jusqani_search(1, 0, sides, 8, limits, JUSQANI_RECT_LENGTH, 12, 8191, verdict, JUSQANI_VERDICT_LENGTH) == 0
+                && verdict[0] == OUTSIDE,
+            "the whole box is walked, and the curve lies outside");
 }
 
 /* The refusal of a curve of degree 8 with such a sum that lies in a box, by the walk and by the list of that box. */
@@ -195,6 +211,7 @@ int main(int argc, char **argv)
     for (size_t k = 0; k < count; k++)
         settings[k] = setting(argv + first + 2 + RECORD_LENGTH * k);
     check_order();
+    check_lacking();
     check_sums();
     return choose(count, sum, depth, budget, choice_length);
 }

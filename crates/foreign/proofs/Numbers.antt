@@ -1,30 +1,41 @@
--- Curves as numbers: how many they are, and the numbers of one rectangle more.
+-- Curves as numbers: a side that is had, how many numbers they are, and those of one rectangle more.
 -- Assumes nothing.
 use mathlib.Core.Path.{_≡_, refl, sym, ap, _∙_}
 use mathlib.Core.Bool.{Bool, true, false, cond}
-use mathlib.Core.List.{List, _++_}
+use mathlib.Core.List.{List, [], _∷_, _++_}
 use Prim.Native.Nat.{ℕ, zero, suc, _+_, _*_, _≤_, _<_, _^_}
 use native.Mathlib.Decide.{decLe}
 use native.Mathlib.Numerals.{add-one}
 use native.Mathlib.Omega.{arith}
 use lib.Dec.{eqb}
-use lib.IntN.{pos}
-use lib.ListN.{length, length-append}
+use lib.IntN.{ℤ, pos}
+use lib.ListN.{length, getD, length-append}
+use lib.Signed.{mag}
 use borrow.Author.Tests.{le-leb, lt-leb}
 use mir.Syntax.{w32}
-use mir.Val.{boolByte, toZ}
+use mir.Val.{boolByte, toZ, ofZ, hbits}
 use mir.ValLaws.{toZ-ofZ}
 use Rattle.curve.specs.declared.Rect.{Rect}
 use Rattle.curve.specs.declared.Curve.{Curve}
 use Rattle.curve.specs.Limits.{maxDegree}
 use Rattle.curve.specs.Curve.{point, pointsOf, zeroCurve}
+use Rattle.curve.proofs.Machine.{told}
 use Rattle.curve.proofs.Places.{is-points, points-length, points-at}
 use Rattle.card_text.specs.declared.CardRead.{CardRead}
 use Rattle.card_text.specs.Card.{sides}
 use Rattle.card_text.specs.Reading.{numberAt, decoded, cardRefusal, readCard}
 use Rattle.card_text.proofs.Degree.{degree-at-most}
-use Rattle.foreign.specs.Numbers.{sidesTo, curveNumbers, flagNumber}
+use Rattle.foreign.specs.Numbers.{sideAt, sidesTo, curveNumbers, flagNumber}
 use Rattle.foreign.specs.Inner.{lastPlace}
+
+-- a side that the list has, as it comes out of memory
+had : (zs : List ℤ) (k : ℕ) → k < length zs → getD zs k (pos 0) ≡ sideAt zs k
+had [] k h = absurd (omega arith)
+had (z ∷ zs) zero h = refl
+had (z ∷ zs) (suc k) h = had zs k (omega arith)
+
+pub side-had : (zs : List ℤ) (k : ℕ) → k < length zs → mag (getD zs k (pos 0)) < 2 ^ hbits w32 → toZ w32 (ofZ w32 (getD zs k (pos 0))) ≡ sideAt zs k
+side-had zs k h small = told (getD zs k (pos 0)) small ∙ had zs k h
 
 module _ (P : ℕ → Rect) where
   pub sides-length : (m : ℕ) → length (sidesTo m P) ≡ 4 * m

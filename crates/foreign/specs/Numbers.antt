@@ -10,6 +10,7 @@ use lib.ListN.{length, getD}
 use Rattle.curve.specs.declared.Rect.{Rect}
 use Rattle.curve.specs.declared.Curve.{Curve}
 use Rattle.curve.specs.declared.Ohms.{Ohms}
+use Rattle.curve.specs.Limits.{maxSide}
 use Rattle.curve.specs.Curve.{curveOf, point}
 use Rattle.card_text.specs.Card.{sides}
 use Rattle.search.specs.declared.Verdict.{Verdict}
@@ -23,9 +24,13 @@ use Rattle.bridge.specs.declared.Found.the-variants.{Refused, NoCarrier as Carr
 
 -- ---- what a call is given
 
--- a side by its index; one that the list does not have counts as zero
+-- what stands for a side that a list does not have: the first value out of range, which every call refuses
+abbrev pub missing : ℤ
+missing = pos (maxSide + 1)
+
+-- a side by its index
 abbrev pub sideAt : List ℤ → ℕ → ℤ
-sideAt zs k = getD zs k (pos 0)
+sideAt zs k = getD zs k missing
 
 -- the rectangle whose four sides begin at an index
 unfoldable pub rectAt : List ℤ → ℕ → Rect

@@ -1,4 +1,4 @@
-// Rectangles, curves and measurements from the numbers that a caller lends. Sides that a slice does not have count as zero.
+// Rectangles, curves and measurements from the numbers that a caller lends. A side that a slice does not have is out of range.
 ghost use mathlib.Core.Path.{_≡_};
 ghost use Prim.Native.Nat.{_+_, _*_, _≤_};
 ghost use lib.ListN.{length};
@@ -15,11 +15,14 @@ use curve::PLACES;
 use curve::Rect;
 use curve::zero_rect;
 
+// What stands for a side that a slice does not have: the first value out of range.
+const MISSING: i32 = 16777217;
+
 // The side at an index.
 fn side_at(sides: &[i32], k: usize) -> i32
     ensures { λ r. ⌜ r ≡ sideAt (now (sides .entry)) k ⌝ }
 {
-    if k < sides.len() { sides[k] } else { 0 }
+    if k < sides.len() { sides[k] } else { MISSING }
 }
 
 // The rectangle whose sides begin at an index, where the slice has all four.

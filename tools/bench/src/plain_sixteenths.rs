@@ -38,9 +38,9 @@ fn row(n: usize, j: usize) -> &'static [u64] {
     &WEIGHTS[first..=first + n]
 }
 
-/// The rectangles 0 to n; sides that the slice does not have count as zero.
+/// The rectangles 0 to n; sides that the slice does not have are out of range.
 pub fn points_of(n: usize, sides: &[i32]) -> Points {
-    let mut points = [[0; RECT_LENGTH]; PLACES];
+    let mut points = [[MAX_SIDE + 1; RECT_LENGTH]; PLACES];
     let read = sides.len().min(RECT_LENGTH * (n + 1));
     points.as_flattened_mut()[..read].copy_from_slice(&sides[..read]);
     points

@@ -10,7 +10,6 @@ use crate::model::{
 use crate::search::{empty_coordinates, have_no_common_point, lies_in, Search};
 use crate::steps::SumCall;
 use crate::trial::{is_short, Counted, Outcome, Trial, SPARE};
-use std::cmp::Ordering;
 
 /// The room for a buffer of a rectangle or a verdict, and for one of a curve.
 pub const RECT_ROOM: usize = FOUR + SPARE + BEHIND;
@@ -279,12 +278,8 @@ impl Trial<'_> {
 
     /// Counts the curve of an accepted call by the sides lent for it.
     pub fn count_given(&mut self, given: &Given) {
-        let lent = match given.length.cmp(&(FOUR * (given.degree as usize + 1))) {
-            Ordering::Less => 0,
-            Ordering::Equal => 1,
-            Ordering::Greater => 2,
-        };
-        self.tally.cover(Line::SidesLent, lent);
+        let more = given.length > FOUR * (given.degree as usize + 1);
+        self.tally.cover(Line::SidesLent, more.into());
     }
 }
 

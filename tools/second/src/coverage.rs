@@ -387,7 +387,7 @@ pub enum Values {
 /// The words of values that are counted by their place in the list: for the limits that a side reaches,
 /// the least counts 1 and the greatest 2.
 const REACHED: Values = Words(&["neither", "-16,777,216", "16,777,216", "both"]);
-const LENT: Values = Words(&["fewer", "as many", "more"]);
+const LENT: Values = Words(&["as many", "more"]);
 const PIECES: Values = Words(&["1", "2 to 63", "64 to 1,023", "1,024 to 8,191"]);
 const FITS: Values = Words(&["one short", "exact", "one more"]);
 const EQUAL_FLAGS: Values = Words(&["rounded", "exact between 0 and 1", "exact at 0 or 1"]);
@@ -662,7 +662,7 @@ pub const GROUPS: [Group; 16] = [
             ),
             (SearchVerdict, "verdict lent", Span(0, 8), 500),
             // With fewer than three sides the reactance is 0 to 0.
-            (SearchLimits, "accepted by limits lent", Span(3, 8), 1_000),
+            (SearchLimits, "accepted by limits lent", Span(4, 8), 1_000),
             (NoBoxLimits, "refused 7 by limits lent", Span(0, 8), 500),
             (NoBoxes, "boxes refused", NO_BOXES, 500),
             (BoxEdges, "sides that decide", EDGES, 1_000),

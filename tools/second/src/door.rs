@@ -3,7 +3,9 @@
 
 use crate::bridge::Measurement;
 use crate::card::{card_length, card_of, curve_of};
-use crate::model::{ohms, refuse_if, Curve, Flagged, Parameter, Rectangle, Refusal, MAX_DEGREE};
+use crate::model::{
+    ohms, refuse_if, Curve, Flagged, Parameter, Rectangle, Refusal, MAX_DEGREE, MAX_SIDE,
+};
 use crate::search::Search;
 use crate::settings::{Chosen, Record, Settings};
 use jusqani::Setting;
@@ -81,14 +83,17 @@ pub const fn curve_length(degree: usize) -> usize {
     BEFORE_SIDES + 4 * (degree + 1)
 }
 
-/// The curve that a call is given: sides that the slice does not have count as zero, and sides past
+/// What stands for a side that a slice does not have: it is out of range.
+const MISSING: i64 = MAX_SIDE + 1;
+
+/// The curve that a call is given: sides that the slice does not have are out of range, and sides past
 /// rectangle n are not read.
 pub fn given_curve(degree: u32, sum: u16, sides: &[i32]) -> Curve {
     let mut curve = Curve::ZERO.with_sum(sum);
     curve.degree = degree as usize;
-    let read = sides.iter().zip(curve.points.as_flattened_mut());
-    for (side, place) in read.take(4 * (MAX_DEGREE.min(curve.degree) + 1)) {
-        *place = (*side).into();
+    let places = curve.points.as_flattened_mut().iter_mut().enumerate();
+    for (k, place) in places.take(4 * (MAX_DEGREE.min(curve.degree) + 1)) {
+        *place = sides.get(k).map_or(MISSING, |side| (*side).into());
     }
     curve
 }
@@ -98,9 +103,9 @@ pub fn curve_without_sum(degree: u32, sides: &[i32]) -> Curve {
     given_curve(degree, 0, sides)
 }
 
-/// The box that a search is given: sides that the slice does not have count as zero.
+/// The box that a search is given: sides that the slice does not have are out of range.
 pub fn given_limits(limits: &[i32]) -> Rectangle {
-    std::array::from_fn(|side| limits.get(side).copied().unwrap_or(0).into())
+    std::array::from_fn(|side| limits.get(side).map_or(MISSING, |side| (*side).into()))
 }
 
 /// The records that a choice is given.

@@ -250,7 +250,7 @@ const FAULTS: [(&str, Row, Door); 17] = [
 
 /// The first disagreement between a door and the model in a few thousand calls of each kind.
 fn found(door: &Door) -> Result<(), String> {
-    let (mut rng, mut tally) = (Rng::new(7), Tally::default());
+    let (mut rng, mut tally) = (Rng::new(8), Tally::default());
     let mut trial = Trial {
         door,
         rng: &mut rng,

@@ -133,10 +133,12 @@ fn encloses_by_the_length_of_the_slice() {
 }
 
 #[test]
-fn counts_missing_sides_as_zero_and_reads_none_past_the_curve() {
+fn refuses_missing_sides_and_reads_none_past_the_curve() {
     let mut rect = [0; 4];
-    assert_eq!(bounds(2, &SIDES[..6], &mut rect), 0);
-    assert_eq!(rect, [0, 3, -3, 0]);
+    for length in 0..8 {
+        let refused = (length as u64 / 4) << 32 | 2;
+        assert_eq!(bounds(1, &SIDES[..length], &mut rect), refused);
+    }
     assert_eq!(
         bounds(1, &[SIDES.as_slice(), &[i32::MIN; 40]].concat(), &mut rect),
         0
@@ -145,6 +147,6 @@ fn counts_missing_sides_as_zero_and_reads_none_past_the_curve() {
     for degree in [0, 9, 257, u32::MAX] {
         assert_eq!(bounds(degree, &[i32::MIN; 50], &mut []), 1, "{degree}");
     }
-    assert_eq!(given_limits(&[1, 2]), [1, 2, 0, 0]);
+    assert_eq!(given_limits(&[1, 2]), [1, 2, MISSING, MISSING]);
     assert_eq!(given_limits(&[1, 2, 3, 4, 5]), [1, 2, 3, 4]);
 }

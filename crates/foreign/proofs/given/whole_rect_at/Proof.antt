@@ -1,22 +1,25 @@
 -- `whole_rect_at` meets its contract: four sides in their order.
 -- Assumes nothing.
 use Prim.Native.Nat.{_+_}
+use native.Mathlib.Omega.{arith}
 use borrow.Author.Needs.{needs}
-use Rattle.rational.proofs.Machine.{told}
-use Rattle.foreign.specs.Numbers.{sideAt, rectAt}
+use Rattle.foreign.specs.Numbers.{rectAt}
+use Rattle.foreign.proofs.Numbers.{side-had}
 use Rattle.foreign.proofs.given.whole_rect_at.Statement.{statement}
 use Rattle.foreign.proofs.given.whole_rect_at.Tie as tie
 
 returns : tie.Need-returns
 unfolding rectAt
 returns c =
-    let a = c .before .before .before .before .args in
-    let s = sideAt (a .sides .now) in
+    let first = c .before .before .before in
+    let a = first .before .args in
+    let room = first .before .pre in
+    let had = side-had (a .sides .now) in
     rw (
-      told (s (a .at)) (c .before .before .before .t5 .given),
-      told (s (a .at + 1)) (c .before .before .t9 .given),
-      told (s (a .at + 2)) (c .before .t14 .given),
-      told (s (a .at + 3)) (c .t18 .given),
+      had (a .at) (omega arith) (first .t5 .given),
+      had (a .at + 1) (omega arith) (c .before .before .t9 .given),
+      had (a .at + 2) (omega arith) (c .before .t14 .given),
+      had (a .at + 3) (omega arith) (c .t18 .given),
     )
 
 pub whole-rect-at-spec : {M : Type 1} → statement M
