@@ -18,12 +18,12 @@ use Rattle.columns.proofs.Put.{line-put}
 use Rattle.curve.specs.declared.Curve.{Curve}
 use Rattle.curve.specs.declared.Rect.{Rect}
 use Rattle.curve.specs.Limits.{maxDegree}
-use Rattle.curve.specs.Rect.{resistance, reactance}
+use Rattle.curve.specs.Rect.{resistance, reactance, sides}
 use Rattle.curve.specs.Curve.{point}
 use Rattle.curve.specs.Refusals.{Accepted}
 use Rattle.curve.specs.Inner.{Side, Held}
 use Rattle.curve.proofs.Accepted.{accepted-ready}
-use Rattle.card_text.specs.Card.{sides, header, row, rows, cardOf, headerLength, rowLength, cardLength}
+use Rattle.card_text.specs.Card.{header, row, rows, cardOf, headerLength, rowLength, cardLength}
 
 pub side-fits-column : (z : ℤ) → Side z → fitsColumn z ≡ true
 unfolding fitsColumn

@@ -13,7 +13,7 @@ use Rattle.columns.proofs.Placed.{placed-front, placed-then}
 use Rattle.curve.specs.declared.Curve.{Curve}
 use Rattle.curve.specs.declared.Refusal.{Refusal}
 use Rattle.curve.specs.Curve.{point}
-use Rattle.curve.specs.Refusals.{none, curveRefusal, Accepted, unlessAt}
+use Rattle.curve.specs.Refusals.{none, curveRefusal, Accepted, unlessAt, unlessRefused}
 use Rattle.curve.proofs.Tests.{or-split}
 use Rattle.curve.proofs.Accepted.{number-accepted, accepted-facts}
 use Rattle.card_text.specs.declared.CardWritten.{CardWritten}
@@ -55,7 +55,7 @@ module _ (c : Curve) (out : List ℕ) where
     to-length = ap (λ (x : Refusal). lengthIf (eqb (x .number) 0) x) e
 
     to-bytes : bytesIf (eqb (r .number) 0) ≡ bytesAfter c out
-    unfolding bytesAfter
+    unfolding bytesAfter unlessRefused
     to-bytes = ap (λ (x : Refusal). bytesIf (eqb (x .number) 0)) e
 
     pub write-refused : (r .number ≡ 0 → ⊥) → (record { refusal = r; length = 0 } ≡ writeCard c out) × (out ≡ bytesAfter c out)

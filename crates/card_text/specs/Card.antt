@@ -2,16 +2,13 @@
 -- Assumes nothing.
 use Prim.Native.Nat.{ℕ, zero, suc, _+_, _*_}
 use mathlib.Core.List.{List, [], _∷_, _++_}
-use lib.IntN.{ℤ, pos}
+use lib.IntN.{pos}
 use Rattle.columns.specs.Line.{line}
 use Rattle.curve.specs.declared.Curve.{Curve}
 use Rattle.curve.specs.declared.Rect.{Rect}
 use Rattle.curve.specs.Limits.{places}
+use Rattle.curve.specs.Rect.{sides}
 use Rattle.curve.specs.Curve.{point}
-
--- a rectangle's four sides in their order
-abbrev pub sides : Rect → List ℤ
-sides p = p .resistance .low ∷ p .resistance .high ∷ p .reactance .low ∷ p .reactance .high ∷ []
 
 -- the first line: the degree
 unfoldable pub header : ℕ → List ℕ

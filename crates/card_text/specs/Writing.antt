@@ -7,7 +7,7 @@ use lib.Dec.{leb, eqb}
 use lib.ListN.{length, drop}
 use Rattle.curve.specs.declared.Curve.{Curve}
 use Rattle.curve.specs.declared.Refusal.{Refusal}
-use Rattle.curve.specs.Refusals.{_orElse_, unlessAt, curveRefusal}
+use Rattle.curve.specs.Refusals.{_orElse_, unlessAt, unlessRefused, curveRefusal}
 use Rattle.card_text.specs.declared.CardWritten.{CardWritten}
 use Rattle.card_text.specs.Card.{cardOf, cardLength}
 
@@ -24,4 +24,4 @@ writeCard c out =
 -- the card in front and the later bytes kept, or all kept when refused
 unfoldable pub bytesAfter : Curve → List ℕ → List ℕ
 bytesAfter c out =
-    cond (eqb (writingRefusal c (length out) .number) 0) (cardOf c ++ drop (cardLength (c .degree)) out) out
+    unlessRefused (writingRefusal c (length out)) (cardOf c ++ drop (cardLength (c .degree)) out) out

@@ -12,7 +12,8 @@ use Rattle.curve.specs.declared.Rect.{Rect}
 use Rattle.curve.specs.Limits.{maxDegree}
 use Rattle.curve.specs.Refusals.{none}
 use Rattle.curve.specs.Inner.{Held}
-use Rattle.card_text.specs.Card.{sides, header, row, rows, headerLength, rowLength, rowAt}
+use Rattle.curve.specs.Rect.{sides}
+use Rattle.card_text.specs.Card.{header, row, rows, headerLength, rowLength, rowAt}
 use Rattle.card_text.specs.Reading.{numberAt, intervalAt, rectAt, columnRefusal, lineEndRefusal, endsRefusal, rowRefusal, rowsRefusal}
 use Rattle.card_text.proofs.Accepting.{or-none}
 use Rattle.card_text.proofs.Entry.{line-read, line-end-read}

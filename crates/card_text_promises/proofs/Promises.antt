@@ -12,7 +12,7 @@ use Rattle.curve.specs.declared.Curve.{Curve}
 use Rattle.curve.specs.declared.Refusal.{Refusal}
 use Rattle.curve.specs.Rect.{zeroRect}
 use Rattle.curve.specs.Curve.{point, SameButSum}
-use Rattle.curve.specs.Refusals.{none, _orElse_, Accepted, unlessAt}
+use Rattle.curve.specs.Refusals.{none, _orElse_, Accepted, unlessAt, unlessRefused}
 use Rattle.curve.proofs.Accepted.{accepted-facts}
 use Rattle.curve.proofs.Points.{point-past}
 use Rattle.curve_promises.proofs.PastUnread.{refusals}
@@ -92,7 +92,7 @@ module _ (c e : Curve) (same : SameButSum c e) where
       ap₂ (λ (r : Refusal) (n : ℕ). r orElse unlessAt (leb (cardLength n) size) 12 (cardLength n)) (refusals c e same) (same .degrees)
 
 pub past-unwritten : PastUnwritten
-unfolding writeCard bytesAfter
+unfolding writeCard bytesAfter unlessRefused
 past-unwritten c e out same =
     let refused = same-writing c e same (length out) in
     let test = ap (λ (r : Refusal). eqb (r .number) 0) refused in (

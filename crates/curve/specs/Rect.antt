@@ -5,6 +5,7 @@ use Prim.Native.Nat.{ℕ}
 use lib.IntN.{ℤ, pos, negℤ}
 use lib.Signed.{leZ, _≤ℤ_}
 use mathlib.Core.Bool.{Bool, _&&_, cond}
+use mathlib.Core.List.{List, [], _∷_}
 use Rattle.rational.specs.Rounding.{Rounding, down, up}
 use Rattle.rational.specs.Fraction.{Frac, whole, _≤ᶠ_}
 use Rattle.bernstein.specs.Affine.{affine, affineExact}
@@ -17,6 +18,10 @@ zeroInterval = record { low = pos 0; high = pos 0 }
 
 abbrev pub zeroRect : Rect
 zeroRect = record { resistance = zeroInterval; reactance = zeroInterval }
+
+-- a rectangle's four sides in their order
+abbrev pub sides : Rect → List ℤ
+sides p = p .resistance .low ∷ p .resistance .high ∷ p .reactance .low ∷ p .reactance .high ∷ []
 
 -- a rectangle's two coordinates
 pub data Coordinate : Type 0 where

@@ -28,6 +28,10 @@ unlessAt ok number place = cond ok none (refusal number place)
 abbrev pub unless : Bool → ℕ → Refusal
 unless ok number = unlessAt ok number 0
 
+-- what is lent for a result, afterwards: the given value where nothing is refused, or kept
+unfoldable pub unlessRefused : {A : Type 0} → Refusal → A → A → A
+unlessRefused r given kept = cond (eqb (r .number) 0) given kept
+
 -- refused with this number at the first of the m places from `from` on of which the test fails
 unfoldable pub firstFailing : (ℕ → Bool) → ℕ → ℕ → ℕ → Refusal
 firstFailing ok number zero from = none

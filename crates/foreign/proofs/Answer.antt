@@ -9,11 +9,11 @@ use lib.Dec.{leb}
 use lib.ListN.{length}
 use borrow.Author.Tests.{leb-true}
 use Rattle.curve.specs.declared.Refusal.{Refusal}
-use Rattle.curve.specs.Refusals.{_orElse_}
+use Rattle.curve.specs.Refusals.{_orElse_, unlessRefused}
 use Rattle.curve.proofs.Refused.{number-passed}
 use Rattle.curve.proofs.Tests.{or-split}
 use Rattle.card_text.proofs.Accepting.{unless-zero}
-use Rattle.foreign.specs.Answer.{maxPlace, placeOf, answerOf, shorter, unlessRefused, after, Gives, refusedOf, GivesBoth, GivesNumber, GivesBothNumber}
+use Rattle.interface.specs.Answer.{maxPlace, placeOf, answerOf, shorter, after, Gives, refusedOf, GivesBoth, GivesNumber, GivesBothNumber}
 use Rattle.foreign.specs.Inner.{Room}
 
 pub place-small : (place : ℕ) → placeOf place ≤ maxPlace

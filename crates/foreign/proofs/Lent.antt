@@ -1,17 +1,12 @@
--- What a call leaves in what is lent to it: all of it where the call is refused, and otherwise the result, in a list stored in front.
+-- Numbers stored in front of a lent list.
 -- Assumes nothing.
 use mathlib.Core.Path.{_≡_, sym, ap, ap₂, _∙_}
-use mathlib.Core.Bool.{Bool, cond}
 use mathlib.Core.List.{List, [], _∷_, _++_}
 use Prim.Native.Nat.{ℕ, _+_, _≤_, _<_}
 use native.Mathlib.Nat.{zero-add}
 use native.Mathlib.Omega.{arith}
-use lib.Dec.{eqb}
 use lib.ListN.{length, getD, drop, length-append, length-drop}
 use lib.Seq.{sets, sets-eq, take-at, drop-at, drop-drop, drop-cons}
-use borrow.Author.Tests.{eq-eqb, ne-eqb}
-use Rattle.curve.specs.declared.Refusal.{Refusal}
-use Rattle.foreign.specs.Answer.{unlessRefused}
 
 module _ {A : Type 0} where
   -- numbers in front of a list
@@ -41,15 +36,3 @@ module _ {A : Type 0} where
   -- the first two numbers of a list, in front of the same
   pub front-same : (out : List A) (d : A) → 1 < length out → out ≡ front (getD out 0 d ∷ getD out 1 d ∷ []) out
   front-same out d some = drop-cons out 0 d (omega arith) ∙ ap (λ (l : List A). getD out 0 d ∷ l) (drop-cons out 1 d some)
-
-module _ {A : Type 0} (r : Refusal) (value lent : A) where
-  abbrev leftIf : Bool → A
-  leftIf b = cond b value lent
-
-  pub all-kept : (r .number ≡ 0 → ⊥) → lent ≡ unlessRefused r value lent
-  unfolding unlessRefused
-  all-kept some = ap leftIf (sym (ne-eqb (r .number) 0 some))
-
-  pub value-stored : r .number ≡ 0 → value ≡ unlessRefused r value lent
-  unfolding unlessRefused
-  value-stored none = ap leftIf (sym (eq-eqb (r .number) 0 none))

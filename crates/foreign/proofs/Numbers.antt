@@ -1,15 +1,14 @@
--- Curves as numbers: a side that is had, how many numbers they are, and those of one rectangle more.
+-- Sides as they come out of memory, and small facts about the numbers of a curve.
 -- Assumes nothing.
-use mathlib.Core.Path.{_≡_, refl, sym, ap, _∙_}
+use mathlib.Core.Path.{_≡_, refl, _∙_}
 use mathlib.Core.Bool.{Bool, true, false, cond}
-use mathlib.Core.List.{List, [], _∷_, _++_}
-use Prim.Native.Nat.{ℕ, zero, suc, _+_, _*_, _≤_, _<_, _^_}
+use mathlib.Core.List.{List, [], _∷_}
+use Prim.Native.Nat.{ℕ, zero, suc, _≤_, _<_, _^_}
 use native.Mathlib.Decide.{decLe}
-use native.Mathlib.Numerals.{add-one}
 use native.Mathlib.Omega.{arith}
 use lib.Dec.{eqb}
 use lib.IntN.{ℤ, pos}
-use lib.ListN.{length, getD, length-append}
+use lib.ListN.{length, getD}
 use lib.Signed.{mag}
 use borrow.Author.Tests.{le-leb, lt-leb}
 use mir.Syntax.{w32}
@@ -18,14 +17,13 @@ use mir.ValLaws.{toZ-ofZ}
 use Rattle.curve.specs.declared.Rect.{Rect}
 use Rattle.curve.specs.declared.Curve.{Curve}
 use Rattle.curve.specs.Limits.{maxDegree}
-use Rattle.curve.specs.Curve.{point, pointsOf, zeroCurve}
-use Rattle.curve.proofs.Machine.{told}
+use Rattle.curve.specs.Curve.{pointsOf, zeroCurve}
+use Rattle.rational.proofs.Machine.{told}
 use Rattle.curve.proofs.Places.{is-points, points-length, points-at}
 use Rattle.card_text.specs.declared.CardRead.{CardRead}
-use Rattle.card_text.specs.Card.{sides}
 use Rattle.card_text.specs.Reading.{numberAt, decoded, cardRefusal, readCard}
 use Rattle.card_text.proofs.Degree.{degree-at-most}
-use Rattle.foreign.specs.Numbers.{sideAt, sidesTo, curveNumbers, flagNumber}
+use Rattle.interface.specs.Numbers.{sideAt, flagNumber}
 use Rattle.foreign.specs.Inner.{lastPlace}
 
 -- a side that the list has, as it comes out of memory
@@ -36,25 +34,6 @@ had (z ∷ zs) (suc k) h = had zs k (omega arith)
 
 pub side-had : (zs : List ℤ) (k : ℕ) → k < length zs → mag (getD zs k (pos 0)) < 2 ^ hbits w32 → toZ w32 (ofZ w32 (getD zs k (pos 0))) ≡ sideAt zs k
 side-had zs k h small = told (getD zs k (pos 0)) small ∙ had zs k h
-
-module _ (P : ℕ → Rect) where
-  pub sides-length : (m : ℕ) → length (sidesTo m P) ≡ 4 * m
-  unfolding sidesTo
-  sides-length zero = refl
-  sides-length (suc m) = length-append (sidesTo m P) (sides (P m)) ∙ rw (sides-length m) (omega arith)
-
-  -- one rectangle more
-  pub sides-next : (m : ℕ) → sidesTo m P ++ sides (P m) ≡ sidesTo (m + 1) P
-  unfolding sidesTo
-  sides-next m = rw (add-one m)
-
-pub curve-length : (c : Curve) → length (curveNumbers c) ≡ 2 + 4 * (c .degree + 1)
-unfolding curveNumbers
-curve-length c = ap (λ (n : ℕ). suc (suc n)) (sides-length (point c) (c .degree + 1)) ∙ omega arith
-
--- the length that a degree gives
-pub length-by-degree : (c : Curve) {n : ℕ} → n ≡ 2 + 4 * (c .degree + 1) → n ≡ length (curveNumbers c)
-length-by-degree c e = e ∙ sym (curve-length c)
 
 -- the curve that a card gives, the zero curve where it is refused, has a degree of at most the highest
 pub card-few : (bytes : List ℕ) → readCard bytes .curve .degree ≤ maxDegree

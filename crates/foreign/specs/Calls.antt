@@ -9,13 +9,13 @@ use Rattle.curve.specs.declared.Subdivision.{Subdivision}
 use Rattle.curve.specs.declared.Elevation.{Elevation}
 use Rattle.curve.specs.declared.Enclosure.{Enclosure}
 use Rattle.card_text.specs.declared.CardRead.{CardRead}
-use Rattle.card_text.specs.Card.{sides}
+use Rattle.curve.specs.Rect.{sides}
 use Rattle.search.specs.declared.SearchAnswer.{SearchAnswer}
 use Rattle.settings.specs.declared.ChoiceAnswer.{ChoiceAnswer}
 use Rattle.bridge.specs.declared.BridgeAnswer.{BridgeAnswer}
 use Rattle.bridge.specs.Bridge.{reported}
-use Rattle.foreign.specs.Numbers.{curveNumbers, ohmNumbers, flagNumber, verdictNumbers, choiceNumbers, foundNumbers}
-use Rattle.foreign.specs.Answer.{Gives, GivesNumber, GivesBothNumber}
+use Rattle.interface.specs.Numbers.{curveNumbers, ohmNumbers, flagNumber, verdictNumbers, choiceNumbers, foundNumbers}
+use Rattle.interface.specs.Answer.{Gives, GivesNumber, GivesBothNumber}
 
 -- the load, its ohms, and the exact flag
 abbrev pub GivesEvaluation : Evaluation → List ℤ → List Float → ℕ → ℕ → List ℤ → List Float → ℕ → Type 0

@@ -1,7 +1,7 @@
 // Answers in 64 bits, and the refusal of a slice that is too short.
 ghost use mathlib.Core.Path.{_≡_};
 ghost use Rattle.curve.specs.Refusals.{_orElse_};
-ghost use Rattle.foreign.specs.Answer.{placeOf, answerOf, shorter};
+ghost use Rattle.interface.specs.Answer.{placeOf, answerOf, shorter};
 use curve::Refusal;
 use curve::first_of;
 use curve::refused_unless;

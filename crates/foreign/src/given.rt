@@ -4,7 +4,7 @@ ghost use Prim.Native.Nat.{_+_, _*_, _≤_};
 ghost use lib.ListN.{length};
 ghost use Rattle.curve.specs.Limits.{maxDegree};
 ghost use Rattle.curve.specs.Curve.{pointsOf};
-ghost use Rattle.foreign.specs.Numbers.{sideAt, rectAt, curveFrom, ohmsAt, measurementFrom};
+ghost use Rattle.interface.specs.Numbers.{sideAt, rectAt, curveFrom, ohmsAt, measurementFrom};
 ghost use Rattle.foreign.specs.Inner.{lastPlace};
 use crate::results::RECT_LENGTH;
 use bridge::Measurement;

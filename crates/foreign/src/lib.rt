@@ -9,8 +9,8 @@ ghost use Rattle.card_text.specs.Writing.{writeCard, bytesAfter};
 ghost use Rattle.search.specs.Search.{searched};
 ghost use Rattle.settings.specs.Settings.{chosen};
 ghost use Rattle.bridge.specs.Bridge.{enclosed};
-ghost use Rattle.foreign.specs.Numbers.{rectAt, curveFrom, measurementFrom};
-ghost use Rattle.foreign.specs.Answer.{answerOf};
+ghost use Rattle.interface.specs.Numbers.{rectAt, curveFrom, measurementFrom};
+ghost use Rattle.interface.specs.Answer.{answerOf};
 ghost use Rattle.foreign.specs.Calls.{
   GivesEvaluation,
   GivesSubdivision,

@@ -8,7 +8,7 @@ use lib.Dec.{leb, eqb}
 use lib.ListN.{length, drop}
 use borrow.Author.Tests.{le-leb, lt-leb, eq-eqb, ne-eqb, leb-true}
 use Rattle.curve.specs.declared.Refusal.{Refusal}
-use Rattle.curve.specs.Refusals.{refusal, none, _orElse_, parameterRefusal, Accepted, AcceptedAt, unlessAt}
+use Rattle.curve.specs.Refusals.{refusal, none, _orElse_, parameterRefusal, Accepted, AcceptedAt, unlessAt, unlessRefused}
 use Rattle.curve.specs.Calls.{evaluated}
 use Rattle.curve.proofs.Refused.{or-first, or-second, number-passed}
 use Rattle.curve.proofs.Tests.{or-split}
@@ -75,7 +75,7 @@ module _ (card : List ℕ) (num den : ℕ) where
     bytesIf b = cond b (loadBytes (panelLoad card num den) ++ drop loadLength out) out
 
     to-bytes : bytesIf (eqb (r .number) 0) ≡ panelBytes card num den out
-    unfolding panelBytes
+    unfolding panelBytes unlessRefused
     to-bytes = ap (λ (x : Refusal). bytesIf (eqb (x .number) 0)) e
 
     pub kept : (r .number ≡ 0 → ⊥) → out ≡ panelBytes card num den out

@@ -1,15 +1,14 @@
 -- The panel call: its refusal, and the lent buffer afterwards.
 -- Assumes nothing.
 use Prim.Native.Nat.{ℕ, suc, _-_, _/_, _%_, _^_}
-use mathlib.Core.Bool.{cond}
 use mathlib.Core.List.{List, [], _∷_, _++_}
-use lib.Dec.{leb, eqb}
+use lib.Dec.{leb}
 use lib.IntN.{ℤ, pos, negsuc}
 use lib.ListN.{length, drop}
 use Rattle.curve.specs.declared.Interval.{Interval}
 use Rattle.curve.specs.declared.Rect.{Rect}
 use Rattle.curve.specs.declared.Refusal.{Refusal}
-use Rattle.curve.specs.Refusals.{_orElse_, parameterRefusal, unlessAt}
+use Rattle.curve.specs.Refusals.{_orElse_, parameterRefusal, unlessAt, unlessRefused}
 use Rattle.curve.specs.Calls.{evaluated}
 use Rattle.card_text.specs.Reading.{cardRefusal, readCard}
 
@@ -51,4 +50,4 @@ panelLoad card num den = evaluated (readCard card .curve) num den .load
 -- the buffer: the load's bytes in front and the later ones kept, or all kept when refused
 unfoldable pub panelBytes : List ℕ → ℕ → ℕ → List ℕ → List ℕ
 panelBytes card num den out =
-    cond (eqb (panelRefusal card num den (length out) .number) 0) (loadBytes (panelLoad card num den) ++ drop loadLength out) out
+    unlessRefused (panelRefusal card num den (length out)) (loadBytes (panelLoad card num den) ++ drop loadLength out) out

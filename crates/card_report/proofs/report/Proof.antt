@@ -21,7 +21,8 @@ use Rattle.curve.specs.Calls.{bounded, evaluated}
 use Rattle.curve.specs.Inner.{Held}
 use Rattle.curve.proofs.Refused.{number-passed}
 use Rattle.card_text.specs.declared.CardRead.{CardRead}
-use Rattle.card_text.specs.Card.{sides, row, rowLength}
+use Rattle.curve.specs.Rect.{sides}
+use Rattle.card_text.specs.Card.{row, rowLength}
 use Rattle.card_text.specs.Reading.{readCard}
 use Rattle.card_text.proofs.Fitting.{row-put, row-long}
 use Rattle.curve.proofs.BoundsHeld.{bounds-held}

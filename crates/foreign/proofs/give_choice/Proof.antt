@@ -2,7 +2,7 @@
 -- Assumes nothing.
 use mathlib.Core.Path.{refl}
 use borrow.Author.Needs.{needs}
-use Rattle.foreign.specs.Numbers.{choiceNumbers}
+use Rattle.interface.specs.Numbers.{choiceNumbers}
 use Rattle.foreign.proofs.Answer.{has-room, gives}
 use Rattle.foreign.proofs.give_choice.Statement.{statement}
 use Rattle.foreign.proofs.give_choice.Tie as tie

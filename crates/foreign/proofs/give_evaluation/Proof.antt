@@ -4,12 +4,12 @@ use mathlib.Core.Path.{refl}
 use borrow.Author.Needs.{needs}
 use lib.ListN.{length}
 use Rattle.curve.proofs.Refused.{or-first}
-use Rattle.card_text.specs.Card.{sides}
-use Rattle.foreign.specs.Numbers.{ohmNumbers}
-use Rattle.foreign.specs.Answer.{shorter}
+use Rattle.curve.specs.Rect.{sides}
+use Rattle.interface.specs.Numbers.{ohmNumbers}
+use Rattle.interface.specs.Answer.{shorter}
 use Rattle.foreign.specs.Inner.{Room}
 use Rattle.foreign.proofs.Answer.{has-both, gives-both-number}
-use Rattle.foreign.proofs.Lent.{all-kept}
+use Rattle.interface.proofs.Lent.{all-kept}
 use Rattle.foreign.proofs.give_evaluation.Statement.{statement}
 use Rattle.foreign.proofs.give_evaluation.Tie as tie
 

@@ -4,7 +4,7 @@ use mathlib.Core.Path.{refl, ap, _∙_, subst}
 use borrow.Author.Needs.{needs}
 use Rattle.curve.specs.declared.Enclosure.{Enclosure}
 use Rattle.curve.specs.Calls.{bounded}
-use Rattle.card_text.specs.Card.{sides}
+use Rattle.curve.specs.Rect.{sides}
 use Rattle.foreign.specs.Calls.{GivesEnclosure}
 use Rattle.foreign.proofs.Answer.{has-room, gives}
 use Rattle.foreign.proofs.jusqani_bounds.Statement.{statement}

@@ -51,7 +51,7 @@ use Rattle.settings.proofs.choose_setting as choose
 use Rattle.settings.proofs.choose_setting.Symbol as choose-def
 use Rattle.settings.proofs.choose_setting.Symbol.{name as #choose}
 use Rattle.settings.proofs.choose_setting.Met as choose-thm
-use Rattle.foreign.specs.Numbers.{curveFrom}
+use Rattle.interface.specs.Numbers.{curveFrom}
 use Rattle.foreign.specs.Calls.{GivesChoice}
 use Rattle.foreign.proofs.given.curve_from as made
 use Rattle.foreign.proofs.given.curve_from.Symbol as made-def

@@ -7,10 +7,10 @@ use Rattle.curve.specs.declared.Elevation.{Elevation}
 use Rattle.curve.specs.Limits.{maxDegree}
 use Rattle.curve.specs.Calls.{elevated}
 use Rattle.curve.proofs.Ranges.{elevated-ranged}
-use Rattle.foreign.specs.Numbers.{curveNumbers}
+use Rattle.interface.specs.Numbers.{curveNumbers}
 use Rattle.foreign.specs.Calls.{GivesElevation}
 use Rattle.foreign.proofs.Answer.{has-room, gives-number}
-use Rattle.foreign.proofs.Numbers.{length-by-degree}
+use Rattle.interface.proofs.Numbers.{length-by-degree}
 use Rattle.foreign.proofs.jusqani_elevate.Statement.{statement}
 use Rattle.foreign.proofs.jusqani_elevate.Tie as tie
 

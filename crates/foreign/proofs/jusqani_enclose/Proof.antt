@@ -5,8 +5,8 @@ use Prim.Native.Nat.{ℕ}
 use borrow.Author.Needs.{needs}
 use Rattle.bridge.specs.declared.BridgeAnswer.{BridgeAnswer}
 use Rattle.bridge.specs.Bridge.{enclosed}
-use Rattle.foreign.specs.Numbers.{foundNumbers}
-use Rattle.foreign.specs.Answer.{unlessRefused}
+use Rattle.interface.specs.Numbers.{foundNumbers}
+use Rattle.curve.specs.Refusals.{unlessRefused}
 use Rattle.foreign.specs.Calls.{GivesFound}
 use Rattle.foreign.proofs.Answer.{has-room, gives-number}
 use Rattle.foreign.proofs.jusqani_enclose.Statement.{statement}

@@ -5,10 +5,11 @@ use Prim.Native.Nat.{_≤_}
 use borrow.Author.Needs.{needs}
 use Rattle.curve.specs.Limits.{maxDegree}
 use Rattle.card_text.specs.declared.CardRead.{CardRead}
-use Rattle.foreign.specs.Numbers.{curveNumbers}
+use Rattle.interface.specs.Numbers.{curveNumbers}
 use Rattle.foreign.specs.Calls.{GivesCard}
 use Rattle.foreign.proofs.Answer.{has-room, gives}
-use Rattle.foreign.proofs.Numbers.{length-by-degree, card-few}
+use Rattle.interface.proofs.Numbers.{length-by-degree}
+use Rattle.foreign.proofs.Numbers.{card-few}
 use Rattle.foreign.proofs.jusqani_read_card.Statement.{statement}
 use Rattle.foreign.proofs.jusqani_read_card.Tie as tie
 

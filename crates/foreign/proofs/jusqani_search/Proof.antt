@@ -6,7 +6,7 @@ use Rattle.curve.specs.declared.Curve.{Curve}
 use Rattle.curve.specs.declared.Rect.{Rect}
 use Rattle.search.specs.declared.SearchAnswer.{SearchAnswer}
 use Rattle.search.specs.Search.{searched}
-use Rattle.foreign.specs.Numbers.{verdictNumbers}
+use Rattle.interface.specs.Numbers.{verdictNumbers}
 use Rattle.foreign.specs.Calls.{GivesSearch}
 use Rattle.foreign.proofs.Answer.{has-room, gives}
 use Rattle.foreign.proofs.jusqani_search.Statement.{statement}

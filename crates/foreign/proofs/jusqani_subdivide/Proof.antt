@@ -9,11 +9,11 @@ use Rattle.curve.specs.declared.Subdivision.{Subdivision}
 use Rattle.curve.specs.Limits.{maxDegree}
 use Rattle.curve.specs.Calls.{subdivided}
 use Rattle.curve.proofs.Ranges.{pieces-ranged}
-use Rattle.foreign.specs.Numbers.{curveNumbers}
+use Rattle.interface.specs.Numbers.{curveNumbers}
 use Rattle.foreign.specs.Inner.{Room}
 use Rattle.foreign.specs.Calls.{GivesSubdivision}
 use Rattle.foreign.proofs.Answer.{has-both, gives-both-number}
-use Rattle.foreign.proofs.Numbers.{length-by-degree}
+use Rattle.interface.proofs.Numbers.{length-by-degree}
 use Rattle.foreign.proofs.jusqani_subdivide.Statement.{statement}
 use Rattle.foreign.proofs.jusqani_subdivide.Tie as tie
 

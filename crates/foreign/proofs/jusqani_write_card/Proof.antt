@@ -5,7 +5,7 @@ use borrow.Author.Needs.{needs}
 use Rattle.curve.specs.declared.Curve.{Curve}
 use Rattle.card_text.specs.declared.CardWritten.{CardWritten}
 use Rattle.card_text.specs.Writing.{writeCard, bytesAfter}
-use Rattle.foreign.specs.Answer.{answerOf}
+use Rattle.interface.specs.Answer.{answerOf}
 use Rattle.foreign.proofs.jusqani_write_card.Statement.{statement}
 use Rattle.foreign.proofs.jusqani_write_card.Tie as tie
 

@@ -3,7 +3,7 @@
 use Prim.Native.Nat.{_≤_}
 use native.Mathlib.Omega.{arith}
 use borrow.Author.Needs.{needs}
-use Rattle.foreign.specs.Answer.{maxPlace, answerOf}
+use Rattle.interface.specs.Answer.{maxPlace, answerOf}
 use Rattle.foreign.proofs.Answer.{place-small}
 use Rattle.foreign.proofs.answers.answer_of.Statement.{statement}
 use Rattle.foreign.proofs.answers.answer_of.Tie as tie

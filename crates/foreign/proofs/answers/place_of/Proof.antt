@@ -1,7 +1,7 @@
 -- `place_of` meets its contract: the test is the definition's.
 -- Assumes nothing.
 use borrow.Author.Tests.{le-leb, lt-leb}
-use Rattle.foreign.specs.Answer.{maxPlace, placeOf}
+use Rattle.interface.specs.Answer.{maxPlace, placeOf}
 use Rattle.foreign.proofs.answers.place_of.Statement.{statement}
 use Rattle.foreign.proofs.answers.place_of.Tie as tie
 

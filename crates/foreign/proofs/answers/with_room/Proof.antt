@@ -4,7 +4,7 @@ use mathlib.Core.Path.{ap, _∙_}
 use borrow.Author.Needs.{needs}
 use Rattle.curve.specs.declared.Refusal.{Refusal}
 use Rattle.curve.specs.Refusals.{_orElse_}
-use Rattle.foreign.specs.Answer.{shorter}
+use Rattle.interface.specs.Answer.{shorter}
 use Rattle.foreign.proofs.answers.with_room.Statement.{statement}
 use Rattle.foreign.proofs.answers.with_room.Tie as tie
 

@@ -11,7 +11,7 @@ use Rattle.curve.specs.declared.Rect.{Rect}
 use Rattle.curve.specs.Limits.{maxDegree}
 use Rattle.curve.specs.Curve.{pointsOf}
 use Rattle.curve.proofs.Places.{points-first, points-next}
-use Rattle.foreign.specs.Numbers.{rectAt, curveFrom}
+use Rattle.interface.specs.Numbers.{rectAt, curveFrom}
 use Rattle.foreign.specs.Inner.{lastPlace}
 use Rattle.foreign.proofs.Numbers.{places-filled, last-small}
 use Rattle.foreign.proofs.given.curve_from.Statement.{statement}

@@ -3,7 +3,7 @@
 use lib.ListN.{length}
 use borrow.Author.Needs.{needs}
 use borrow.Author.Tests.{eq-eqb, ne-eqb, le-leb, lt-leb}
-use Rattle.foreign.specs.Numbers.{measurementFrom}
+use Rattle.interface.specs.Numbers.{measurementFrom}
 use Rattle.foreign.proofs.given.measurement_from.Statement.{statement}
 use Rattle.foreign.proofs.given.measurement_from.Tie as tie
 

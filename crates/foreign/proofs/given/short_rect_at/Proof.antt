@@ -2,7 +2,7 @@
 -- Assumes nothing.
 use borrow.Author.Needs.{needs}
 use Rattle.rational.proofs.Machine.{told}
-use Rattle.foreign.specs.Numbers.{rectAt}
+use Rattle.interface.specs.Numbers.{rectAt}
 use Rattle.foreign.proofs.given.short_rect_at.Statement.{statement}
 use Rattle.foreign.proofs.given.short_rect_at.Tie as tie
 

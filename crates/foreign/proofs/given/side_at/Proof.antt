@@ -3,7 +3,7 @@
 use mathlib.Core.Path.{sym}
 use lib.ListN.{List·getD-eq-default}
 use borrow.Author.Needs.{needs}
-use Rattle.foreign.specs.Numbers.{missing}
+use Rattle.interface.specs.Numbers.{missing}
 use Rattle.foreign.proofs.Numbers.{side-had}
 use Rattle.foreign.proofs.given.side_at.Statement.{statement}
 use Rattle.foreign.proofs.given.side_at.Tie as tie

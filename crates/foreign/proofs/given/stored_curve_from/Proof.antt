@@ -7,7 +7,7 @@ use borrow.Author.Needs.{needs}
 use Rattle.curve.specs.declared.Rect.{Rect}
 use Rattle.curve.specs.Limits.{maxDegree}
 use Rattle.curve.specs.Curve.{pointsOf}
-use Rattle.foreign.specs.Numbers.{rectAt, curveFrom}
+use Rattle.interface.specs.Numbers.{rectAt, curveFrom}
 use Rattle.foreign.proofs.Numbers.{places-filled, last-small}
 use Rattle.foreign.proofs.given.stored_curve_from.Statement.{statement}
 use Rattle.foreign.proofs.given.stored_curve_from.Tie as tie

@@ -10,7 +10,7 @@ use lib.IntN.{ℤ}
 use Rattle.curve.specs.declared.Rect.{Rect}
 use Rattle.curve.specs.Curve.{pointsOf}
 use Rattle.curve.proofs.Places.{points-first, points-next}
-use Rattle.foreign.specs.Numbers.{rectAt}
+use Rattle.interface.specs.Numbers.{rectAt}
 use Rattle.foreign.proofs.given.whole_points.Statement.{statement}
 use Rattle.foreign.proofs.given.whole_points.Tie as tie
 

@@ -3,7 +3,7 @@
 use Prim.Native.Nat.{_+_}
 use native.Mathlib.Omega.{arith}
 use borrow.Author.Needs.{needs}
-use Rattle.foreign.specs.Numbers.{rectAt}
+use Rattle.interface.specs.Numbers.{rectAt}
 use Rattle.foreign.proofs.Numbers.{side-had}
 use Rattle.foreign.proofs.given.whole_rect_at.Statement.{statement}
 use Rattle.foreign.proofs.given.whole_rect_at.Tie as tie

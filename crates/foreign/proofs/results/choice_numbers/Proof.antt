@@ -2,7 +2,7 @@
 -- Assumes nothing.
 use mathlib.Core.Path.{sym, ap}
 use borrow.Author.Needs.{needs}
-use Rattle.foreign.specs.Numbers.{choiceNumbers}
+use Rattle.interface.specs.Numbers.{choiceNumbers}
 use Rattle.foreign.proofs.results.choice_numbers.Statement.{statement}
 use Rattle.foreign.proofs.results.choice_numbers.Tie as tie
 

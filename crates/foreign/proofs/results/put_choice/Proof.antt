@@ -4,7 +4,7 @@ use mathlib.Core.Path.{refl, ap, _∙_}
 use mathlib.Core.List.{List}
 use Prim.Native.Nat.{ℕ}
 use borrow.Author.Needs.{needs}
-use Rattle.foreign.specs.Answer.{after}
+use Rattle.interface.specs.Answer.{after}
 use Rattle.foreign.proofs.results.put_choice.Statement.{statement}
 use Rattle.foreign.proofs.results.put_choice.Tie as tie
 

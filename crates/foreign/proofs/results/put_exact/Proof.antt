@@ -3,7 +3,7 @@
 use mathlib.Core.Path.{ap, _∙_}
 use Prim.Native.Nat.{ℕ}
 use borrow.Author.Needs.{needs}
-use Rattle.foreign.specs.Answer.{unlessRefused}
+use Rattle.curve.specs.Refusals.{unlessRefused}
 use Rattle.foreign.proofs.Numbers.{flag-number}
 use Rattle.foreign.proofs.results.put_exact.Statement.{statement}
 use Rattle.foreign.proofs.results.put_exact.Tie as tie

@@ -9,9 +9,10 @@ use lib.IntN.{ℤ}
 use lib.ListN.{length}
 use borrow.Author.Needs.{needs}
 use Rattle.curve.specs.declared.Refusal.{Refusal}
+use Rattle.curve.specs.Refusals.{unlessRefused}
 use Rattle.bridge.specs.declared.Found.{Found}
-use Rattle.foreign.specs.Answer.{unlessRefused, after}
-use Rattle.foreign.specs.Numbers.{foundNumbers}
+use Rattle.interface.specs.Answer.{after}
+use Rattle.interface.specs.Numbers.{foundNumbers}
 use Rattle.foreign.proofs.results.put_found.Statement.{statement}
 use Rattle.foreign.proofs.results.put_found.Tie as tie
 

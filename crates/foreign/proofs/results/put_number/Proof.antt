@@ -1,6 +1,6 @@
 -- `put_number` meets its contract: the number is stored, and nothing where the call is refused.
 -- Assumes nothing.
-use Rattle.foreign.proofs.Lent.{all-kept, value-stored}
+use Rattle.interface.proofs.Lent.{all-kept, value-stored}
 use Rattle.foreign.proofs.results.put_number.Statement.{statement}
 use Rattle.foreign.proofs.results.put_number.Tie as tie
 

@@ -2,7 +2,7 @@
 -- Assumes nothing.
 use mathlib.Core.Path.{_∙_}
 use borrow.Author.Needs.{needs}
-use Rattle.foreign.proofs.Lent.{all-kept, value-stored}
+use Rattle.interface.proofs.Lent.{all-kept, value-stored}
 use Rattle.foreign.proofs.results.put_numbers.Statement.{statement}
 use Rattle.foreign.proofs.results.put_numbers.Tie as tie
 

@@ -4,8 +4,9 @@ use mathlib.Core.Path.{_∙_}
 use native.Mathlib.Omega.{arith}
 use borrow.Author.Needs.{needs}
 use lib.ListN.{length-set}
-use Rattle.foreign.specs.Numbers.{ohmNumbers}
-use Rattle.foreign.proofs.Lent.{front-first, all-kept, value-stored}
+use Rattle.interface.specs.Numbers.{ohmNumbers}
+use Rattle.interface.proofs.Lent.{all-kept, value-stored}
+use Rattle.foreign.proofs.Lent.{front-first}
 use Rattle.foreign.proofs.results.put_ohms.Statement.{statement}
 use Rattle.foreign.proofs.results.put_ohms.Tie as tie
 

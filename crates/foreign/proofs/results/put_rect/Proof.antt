@@ -2,8 +2,9 @@
 -- Assumes nothing.
 use mathlib.Core.Path.{_∙_}
 use borrow.Author.Needs.{needs}
-use Rattle.card_text.specs.Card.{sides}
-use Rattle.foreign.proofs.Lent.{front-first, all-kept, value-stored}
+use Rattle.curve.specs.Rect.{sides}
+use Rattle.interface.proofs.Lent.{all-kept, value-stored}
+use Rattle.foreign.proofs.Lent.{front-first}
 use Rattle.foreign.proofs.results.put_rect.Statement.{statement}
 use Rattle.foreign.proofs.results.put_rect.Tie as tie
 

@@ -13,10 +13,11 @@ use mir.Val.{toZ, ofZ}
 use Rattle.curve.specs.declared.Curve.{Curve}
 use Rattle.curve.specs.Curve.{point}
 use Rattle.rational.proofs.Machine.{told}
-use Rattle.card_text.specs.Card.{sides}
-use Rattle.foreign.specs.Numbers.{sidesTo, curveNumbers}
+use Rattle.curve.specs.Rect.{sides}
+use Rattle.interface.specs.Numbers.{sidesTo, curveNumbers}
 use Rattle.foreign.proofs.Lent.{front, front-length, front-same, front-next}
-use Rattle.foreign.proofs.Numbers.{sides-length, sides-next, curve-length, as-signed}
+use Rattle.interface.proofs.Numbers.{sides-length, sides-next, curve-length}
+use Rattle.foreign.proofs.Numbers.{as-signed}
 use Rattle.foreign.proofs.results.store_curve.Statement.{statement}
 use Rattle.foreign.proofs.results.store_curve.Tie as tie
 

@@ -2,7 +2,7 @@
 -- Assumes nothing.
 use mathlib.Core.Path.{sym, ap}
 use borrow.Author.Needs.{needs}
-use Rattle.foreign.specs.Numbers.{verdictNumbers}
+use Rattle.interface.specs.Numbers.{verdictNumbers}
 use Rattle.foreign.proofs.results.verdict_numbers.Statement.{statement}
 use Rattle.foreign.proofs.results.verdict_numbers.Tie as tie
 

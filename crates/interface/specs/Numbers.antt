@@ -12,7 +12,7 @@ use Rattle.curve.specs.declared.Curve.{Curve}
 use Rattle.curve.specs.declared.Ohms.{Ohms}
 use Rattle.curve.specs.Limits.{maxSide}
 use Rattle.curve.specs.Curve.{curveOf, point}
-use Rattle.card_text.specs.Card.{sides}
+use Rattle.curve.specs.Rect.{sides}
 use Rattle.search.specs.declared.Verdict.{Verdict}
 use Rattle.search.specs.Verdict.{Report, reported}
 use Rattle.settings.specs.declared.Choice.{Choice}

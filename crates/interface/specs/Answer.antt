@@ -4,10 +4,10 @@ use mathlib.Core.Path.{_≡_}
 use mathlib.Core.Bool.{cond}
 use mathlib.Core.List.{List, _++_}
 use Prim.Native.Nat.{ℕ, _+_, _*_}
-use lib.Dec.{leb, eqb}
+use lib.Dec.{leb}
 use lib.ListN.{length, drop}
 use Rattle.curve.specs.declared.Refusal.{Refusal}
-use Rattle.curve.specs.Refusals.{_orElse_, unlessAt}
+use Rattle.curve.specs.Refusals.{_orElse_, unlessAt, unlessRefused}
 
 -- 2 to the power 32, and the largest place that an answer can carry
 abbrev pub word : ℕ
@@ -27,10 +27,6 @@ answerOf r = r .number + word * placeOf (r .place)
 -- 12: a size below the length that is needed
 unfoldable pub shorter : ℕ → ℕ → Refusal
 shorter needed size = unlessAt (leb needed size) 12 needed
-
--- what is lent for a result, afterwards: the given value where nothing is refused, or kept
-unfoldable pub unlessRefused : {A : Type 0} → Refusal → A → A → A
-unlessRefused r given kept = cond (eqb (r .number) 0) given kept
 
 -- a lent list afterwards: the result in front and what lies past it kept, or all kept when refused
 abbrev pub after : {A : Type 0} → Refusal → List A → List A → List A

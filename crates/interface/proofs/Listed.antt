@@ -39,8 +39,8 @@ use Rattle.bridge.specs.declared.Measurement.the-variants.{NoCarrier, Load, Loa
 use Rattle.bridge.specs.Value.{isLoad, isSpread}
 use Rattle.bridge.specs.Bridge.{loadRect, spreadRect, loadRefusal, numberRefusal, sideRefusal, spreadRefusal, enclosed}
 use Rattle.bridge.proofs.Answers.{answered-refusal}
-use Rattle.foreign.specs.Answer.{shorter}
-use Rattle.foreign.specs.Promises.{Listed, ListedAnswers}
+use Rattle.interface.specs.Answer.{shorter}
+use Rattle.interface.specs.Promises.{Listed, ListedAnswers}
 
 -- ---- one refusal, and the first of several
 

@@ -1,0 +1,92 @@
+-- What is promised of the calls from outside beside their equations, over the definitions that their contracts cite.
+-- Assumes nothing.
+use mathlib.Core.Path.{_≡_}
+use mathlib.Core.Bool.{true, false}
+use mathlib.Core.List.{List, [], _∷_, _++_, map}
+use Prim.Native.Nat.{ℕ, _+_, _*_, _/_, _%_, _^_, _<_, _≤_}
+use lib.IntN.{ℤ, pos}
+use lib.ListN.{length, take, drop}
+use Rattle.curve.specs.declared.Rect.{Rect}
+use Rattle.curve.specs.declared.Curve.{Curve}
+use Rattle.curve.specs.declared.Refusal.{Refusal}
+use Rattle.curve.specs.Rect.{sides}
+use Rattle.curve.specs.Curve.{SameCurve}
+use Rattle.curve.specs.Ohms.{ohm, ohmsOf}
+use Rattle.curve.specs.Refusals.{none, _orElse_, degreeRefusal, curveRefusal, Accepted}
+use Rattle.curve.specs.Calls.{evaluated, subdivided, elevated, bounded}
+use Rattle.sixteenths.specs.Sixteenths.{evaluatedSixteenths}
+use Rattle.card_text.specs.Reading.{readCard}
+use Rattle.card_text.specs.Writing.{writeCard}
+use Rattle.search.specs.declared.Verdict.the-variants.{Inside, Outside, Spent, Undecided}
+use Rattle.search.specs.Box.{isBox}
+use Rattle.search.specs.Search.{searched}
+use Rattle.settings.specs.declared.Setting.{Setting}
+use Rattle.settings.specs.declared.Choice.the-variants.{Fits, NoneFits}
+use Rattle.settings.specs.Settings.{chosen}
+use Rattle.bridge.specs.declared.Measurement.{Measurement}
+use Rattle.bridge.specs.Bridge.{enclosed}
+use Rattle.interface.specs.Numbers.{rectAt, curveFrom, curveNumbers, ohmNumbers, flagNumber, verdictNumbers, choiceNumbers}
+use Rattle.interface.specs.Answer.{placeOf, answerOf, shorter, after}
+
+-- the number and the place are read off the low and the high 32 bits of an answer
+abbrev pub Unpacked : Type 0
+Unpacked =
+    (r : Refusal) → r .number < 2 ^ 32 →
+    (answerOf r % 2 ^ 32 ≡ r .number) × (answerOf r / 2 ^ 32 ≡ placeOf (r .place)) × (r .place < 2 ^ 32 → placeOf (r .place) ≡ r .place)
+
+-- a curve of degree n is 2 + 4 × (n + 1) numbers
+abbrev pub CurveLength : Type 0
+CurveLength = (c : Curve) → length (curveNumbers c) ≡ 2 + 4 * (c .degree + 1)
+
+-- a curve that is handed on is the curve that was given: its numbers, with anything behind them, begin with its degree and its sum, and what follows is read as an equal curve
+abbrev pub HandedOn : Type 0
+HandedOn =
+    (c : Curve) (more : List ℤ) → Accepted c →
+    let numbers = curveNumbers c ++ more in
+    (take 2 numbers ≡ pos (c .degree) ∷ pos (c .sum) ∷ []) × SameCurve c (curveFrom (c .degree) (c .sum) (drop 2 numbers))
+
+-- what lacks a side is refused: a curve with 2, at the first rectangle that lacks one or before it, and a box, which is then none
+pub record Lacking : Type 0 where
+  pub curve : (degree sum : ℕ) (zs : List ℤ) → degreeRefusal degree ≡ none → length zs < 4 * (degree + 1) →
+      (curveRefusal (curveFrom degree sum zs) .number ≡ 2) × (curveRefusal (curveFrom degree sum zs) .place ≤ length zs / 4)
+  pub box : (zs : List ℤ) → length zs < 4 → isBox (rectAt zs 0) ≡ false
+
+-- what the numbers of a result are: the ohms stand in the order of the sides, and the values of each verdict and choice in the order of the header
+pub record ResultNumbers : Type 0 where
+  pub ohms : (p : Rect) → ohmNumbers (ohmsOf p) ≡ map ohm (sides p)
+  pub lit : flagNumber true ≡ 1
+  pub dark : flagNumber false ≡ 0
+  pub inside : (count : ℕ) → verdictNumbers (Inside count) ≡ 1 ∷ 0 ∷ 0 ∷ count ∷ []
+  pub outside : (depth index count : ℕ) → verdictNumbers (Outside depth index count) ≡ 2 ∷ depth ∷ index ∷ count ∷ []
+  pub spent : (count : ℕ) → verdictNumbers (Spent count) ≡ 3 ∷ 0 ∷ 0 ∷ count ∷ []
+  pub undecided : (depth index count : ℕ) → verdictNumbers (Undecided depth index count) ≡ 4 ∷ depth ∷ index ∷ count ∷ []
+  pub fits : (index setting : ℕ) → choiceNumbers (Fits index setting) ≡ 1 ∷ index ∷ setting ∷ []
+  pub noneFits : choiceNumbers NoneFits ≡ 2 ∷ 0 ∷ 0 ∷ []
+
+-- a refused call changes nothing that is lent to it, and any other keeps what lies past its result
+pub record Kept : Type 1 where
+  pub refused : {A : Type 0} (r : Refusal) (result out : List A) → (r .number ≡ 0 → ⊥) → after r result out ≡ out
+  pub past : {A : Type 0} (r : Refusal) (result out : List A) → r .number ≡ 0 → drop (length result) (after r result out) ≡ drop (length result) out
+
+-- a refusal with one of the listed numbers 1 to 17, or none
+pub record Listed (r : Refusal) : Type 0 where
+  pub known : r .number ≤ 17
+  pub zero : r .number ≡ 0 → r ≡ none
+
+-- so is the refusal of every call within, and with that of a list that is too short behind it
+pub record ListedAnswers : Type 0 where
+  pub evaluating : (c : Curve) (num den : ℕ) → Listed (evaluated c num den .refusal)
+  pub summing : (c : Curve) (j : ℕ) → Listed (evaluatedSixteenths c j .refusal)
+  pub subdividing : (c : Curve) (num den : ℕ) → Listed (subdivided c num den .refusal)
+  pub elevating : (c : Curve) → Listed (elevated c .refusal)
+  pub bounding : (c : Curve) → Listed (bounded c .refusal)
+  pub searching : (c : Curve) (box : Rect) (depth budget : ℕ) → Listed (searched c box depth budget .refusal)
+  pub choosing : (c : Curve) (settings : List Setting) (depth budget : ℕ) → Listed (chosen c settings depth budget .refusal)
+  pub enclosing : (m : Measurement) → Listed (enclosed m .refusal)
+  pub reading : (card : List ℕ) → Listed (readCard card .refusal)
+  pub writing : (c : Curve) (out : List ℕ) → Listed (writeCard c out .refusal)
+  pub short : (r : Refusal) (needed size : ℕ) → Listed r → Listed (r orElse shorter needed size)
+
+-- an answer is 0 exactly where nothing is refused
+abbrev pub ZeroAnswer : Type 0
+ZeroAnswer = (r : Refusal) → Listed r → (r ≡ none → answerOf r ≡ 0) × (answerOf r ≡ 0 → r ≡ none)
