@@ -8,8 +8,8 @@ use Prim.Native.Nat.{ℕ, zero, suc, _+_, _*_, _/_, _%_, _<_, _≤_}
 use native.Mathlib.Nat.{eq-or-lt-of-le}
 use native.Mathlib.Omega.{arith}
 use lib.IntN.{ℤ}
-use lib.ListN.{length, drop, List·getD-eq-default}
-use lib.Seq.{drop-at}
+use lib.ListN.{length, take, drop, List·getD-eq-default}
+use lib.Seq.{take-at, drop-at}
 use borrow.Author.Tests.{le-leb}
 use Rattle.curve.specs.declared.Rect.{Rect}
 use Rattle.curve.specs.declared.Curve.{Curve}
@@ -160,6 +160,9 @@ pub kept : Kept
 kept =
     record {
       refused = λ r result out some. sym (all-kept r _ out some);
+      front = λ {A} r result out none.
+          ap (λ (l : List A). take (length result) l) (sym (value-stored r (result ++ drop (length result) out) out none))
+          ∙ take-at result (drop (length result) out) (length result) refl;
       past = λ {A} r result out none.
           ap (λ (l : List A). drop (length result) l) (sym (value-stored r (result ++ drop (length result) out) out none))
           ∙ drop-at result (drop (length result) out) (length result) refl;

@@ -63,9 +63,10 @@ pub record ResultNumbers : Type 0 where
   pub fits : (index setting : ℕ) → choiceNumbers (Fits index setting) ≡ 1 ∷ index ∷ setting ∷ []
   pub noneFits : choiceNumbers NoneFits ≡ 2 ∷ 0 ∷ 0 ∷ []
 
--- a refused call changes nothing that is lent to it, and any other keeps what lies past its result
+-- a refused call changes nothing that is lent to it, and any other has its result in front and keeps what lies past it
 pub record Kept : Type 1 where
   pub refused : {A : Type 0} (r : Refusal) (result out : List A) → (r .number ≡ 0 → ⊥) → after r result out ≡ out
+  pub front : {A : Type 0} (r : Refusal) (result out : List A) → r .number ≡ 0 → take (length result) (after r result out) ≡ result
   pub past : {A : Type 0} (r : Refusal) (result out : List A) → r .number ≡ 0 → drop (length result) (after r result out) ≡ drop (length result) out
 
 -- a refusal with one of the listed numbers 1 to 17, or none
