@@ -70,7 +70,7 @@ unfoldable pub rightOf : Curve → ℕ → ℕ → Curve
 rightOf c num den = curveOf (c .degree) (pieceSum c) (DeCasteljau.right (mapAt num den) (point c) (c .degree))
 
 -- the exact flag of the load and of both pieces (document 02: the lamp). Lit, true: no map of the table left a remainder.
--- Dark, false: some map was rounded; that is not to say which side, or that it is wrong.
+-- Dark, false: some map was rounded, and then some side of the load is not the exact one (`ExactLoad` of ledger_promises).
 unfoldable pub tableExact : Curve → ℕ → ℕ → Bool
 tableExact c num den = DeCasteljau.everyMap (mapAt num den) (point c) (exactAt num den) (c .degree)
 

@@ -66,10 +66,10 @@ unfolding tableExact
 all-lit c num den all = every-of (mapAt num den) (exactAt num den) (point c) (c .degree) (λ j k h. all _ _)
 
 module _ (c : Curve) (den : ℕ) where
-  lit-first : tableExact c 0 den ≡ true
+  pub lit-first : tableExact c 0 den ≡ true
   lit-first = all-lit c 0 den (λ p q. ap (λ (s : ℕ). exactRect s 0 den p q) (sub-zero den) ∙ exact-rect-first den p q)
 
-  lit-last : tableExact c den den ≡ true
+  pub lit-last : tableExact c den den ≡ true
   lit-last = all-lit c den den (λ p q. ap (λ (s : ℕ). exactRect s den den p q) (sub-self den) ∙ exact-rect-second den p q)
 
 both-lit : (c : Curve) (num den : ℕ) → Accepted c → AcceptedAt num den → tableExact c num den ≡ true → Lit c num den

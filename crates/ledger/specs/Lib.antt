@@ -2,4 +2,3 @@ pub mod Ordinary
 pub mod Ledger
 pub mod Exact
 pub mod Claim
-pub mod Promises

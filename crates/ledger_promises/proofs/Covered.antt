@@ -17,13 +17,13 @@ use Rattle.curve.specs.Inner.{Factors}
 use Rattle.curve.proofs.Accepted.{parameter-facts}
 use Rattle.curve.proofs.Answers.{subdivided-accepted}
 use Rattle.curve.proofs.Pieces.{left-degree, right-degree}
 use Rattle.ledger.specs.Ordinary.{Ordinary, InsideOf, loadAt}
 use Rattle.ledger.specs.Ledger.{Piece, left, right, kept, parameter}
 use Rattle.ledger.specs.Exact.{part}
-use Rattle.ledger.specs.Promises.{placeOn, Covers, PiecesCover}
+use Rattle.ledger_promises.specs.Promises.{placeOn, Covers, PiecesCover}
 use Rattle.ledger.proofs.Stretch.{Stretch}
 use Rattle.ledger.proofs.Steps.{left-stretch, right-stretch, left-exact, right-exact}
 use Rattle.ledger.proofs.Evaluation.{inward, inward-none, bounded-near, near-bounded}
 
 -- an ordinary curve whose control points are those of another, moved as a stretch moves them
 module _

@@ -1,37 +1,39 @@
--- The summed reading beside the exact sides of the curve that it is given: never short of them, strictly less than one step beyond, and equal where its flag is lit.
+-- The summed reading beside the exact sides of the curve that it is given: never short of them, strictly less than one step beyond, and equal exactly where its flag is lit.
 -- Assumes nothing.
 use mathlib.Core.Path.{_≡_, sym, ap, _∙_, subst, subst₂}
 use mathlib.Core.Bool.{true, _&&_}
 use Prim.Native.Nat.{ℕ, _-_, _^_, _≤_, _<_}
 use lib.IntN.{ℤ, pos, negsuc, _+ℤ_, -ℤ-+ℤ-cancel}
 use lib.Signed.{_≤ℤ_, <ℤ-irrefl}
-use Rattle.rational.specs.Rounding.{Rounding, down, up, quotient}
+use Rattle.rational.specs.Rounding.{Rounding, down, up, quotient, divisible}
 use Rattle.rational.specs.Fraction.{Frac, whole, _+ᶠ_, _*ᶠ_}
 use Rattle.rational.proofs.Order.{suc-<ℤ}
-use Rattle.rational.proofs.Rational.{ℚ, rat, rat-add, rat-mul, rat-whole, embed, embed-add, _+ℚ_, _*ℚ_, +ℚ-assoc, +ℚ-zero}
+use Rattle.rational.proofs.Rational.{ℚ, rat, equal-rat, rat-add, rat-mul, rat-whole, embed, embed-add, _+ℚ_, _*ℚ_, +ℚ-assoc, +ℚ-zero}
 use Rattle.rational.proofs.RationalOrder.{_≤ℚ_, ≤ℚ-of, equal-of, +ℚ-mono-right}
-use Rattle.rational.proofs.Division.{ratio, ratio-mul, ratio-weights, quotient-at-most, quotient-at-least, below-quotient, above-quotient}
-use Rattle.rational.proofs.Truth.{and-both}
+use Rattle.rational.proofs.Division.{ratio, ratio-mul, ratio-weights, ratio-embed, quotient-at-most, quotient-at-least, below-quotient, above-quotient}
+use Rattle.rational.proofs.Truth.{and-both, both-and}
+use Rattle.rational.proofs.Divisible.{multiple-divisible}
 use Rattle.bernstein.proofs.Rationals.{mean}
 use Rattle.bernstein.proofs.Curve.{curve, curve-at, bernstein-curve}
 use Rattle.bernstein.proofs.Rounded.{Near}
 use Rattle.bernstein.proofs.WholeSum.{power-positive, whole-value, sum-exact}
 use Rattle.curve.specs.declared.Curve.{Curve}
 use Rattle.curve.specs.declared.Evaluation.{Evaluation}
+use Rattle.curve.specs.declared.Refusal.{Refusal}
 use Rattle.curve.specs.Rect.{Coordinate, resistance, reactance, side, Bounded}
 use Rattle.curve.specs.Curve.{point}
 use Rattle.curve.specs.Inner.{Factors}
 use Rattle.curve.proofs.Accepted.{parameter-facts}
 use Rattle.curve.proofs.Points.{sides}
 use Rattle.sixteenths.specs.Weights.{sixteenths}
-use Rattle.sixteenths.specs.Sixteenths.{sumOf, summedSide, sideExact, summedExact}
-use Rattle.sixteenths.proofs.Answers.{sixteenth-accepted, summed-accepted, summed-lit}
+use Rattle.sixteenths.specs.Sixteenths.{sumOf, summedSide, sideExact, summedExact, evaluatedSixteenths}
+use Rattle.sixteenths.proofs.Answers.{number-facts, sixteenth-accepted, summed-accepted, summed-refusal, summed-lit}
 use Rattle.sixteenths.proofs.Loads.{side-summed}
 use Rattle.ledger.specs.Ordinary.{exactSide}
 use Rattle.ledger.specs.Ledger.{parameter}
-use Rattle.ledger.specs.Promises.{SumIsExact, LessThanAStep, WithinAStep, ExactSum}
+use Rattle.ledger_promises.specs.Promises.{SumIsExact, LessThanAStep, WithinAStep, ExactSides, ExactSum}
 use Rattle.ledger.proofs.Steps.{parameter-ratio}
 use Rattle.ledger.proofs.Evaluation.{inward, near-bounded}
 
 -- a rounded quotient is not short of the exact one
 rounded-inward : (d : ℕ) (positive : 0 < d) (r : Rounding) (z : ℤ) → Near (inward r) 0 (quotient r z d) (ratio d positive z)
@@ -80,6 +82,14 @@ module _ (c : Curve) (j : ℕ) (most : j ≤ sixteenths) (x : Coordinate) (r : R
       sum-exact (sixteenths - j) j sixteenths (f .total) (f .positive) r (sides x r (point c)) (c .degree) lit
       ∙ sym (whole-value sixteenths (f .positive) (sixteenths - j) j (c .degree) (sides x r (point c)))
       ∙ sym exact-ratio
+
+  -- and where it is exact nothing is left
+  exact-lit : rat (whole (summedSide c j x r)) ≡ rat exact → sideExact c j x r ≡ true
+  unfolding embed summedSide sideExact
+  exact-lit same =
+      let m = summedSide c j x r in
+      ap (λ (z : ℤ). divisible z (sixteenths ^ c .degree)) (ratio-embed (sixteenths ^ c .degree) positive m (sumOf c j x r) (sym exact-ratio ∙ sym same))
+      ∙ multiple-divisible (sixteenths ^ c .degree) m
 
 pub sum-is-exact : SumIsExact
 sum-is-exact c j most x r =
@@ -131,8 +141,8 @@ lit-side c j lit x r = go x r (and-both (sideExact c j resistance down && sideEx
     go reactance down both = and-both (sideExact c j reactance down) (sideExact c j reactance up) (both .1) .0
     go reactance up both = and-both (sideExact c j reactance down) (sideExact c j reactance up) (both .1) .1
 
-pub exact-sum : ExactSum
-exact-sum c j flag x r =
+lit-sum : (c : Curve) (j : ℕ) → evaluatedSixteenths c j .exact ≡ true → ExactSides c (parameter j sixteenths) (evaluatedSixteenths c j .load)
+lit-sum c j flag x r =
     let (ok, most) = summed-lit c j flag in
     let answer = summed-accepted c j ok most in
     let lit : summedExact c j ≡ true = sym (ap (λ (e : Evaluation). e .exact) answer) ∙ flag in
@@ -140,3 +150,18 @@ exact-sum c j flag x r =
     (ap (λ (e : Evaluation). rat (whole (side x r (e .load)))) answer
     ∙ ap (λ (z : ℤ). rat (whole z)) (side-summed c j x r)
     ∙ lit-exact c j most x r (lit-side c j lit x r))
+
+sides-lit : (c : Curve) (j : ℕ) → ((x : Coordinate) (r : Rounding) → sideExact c j x r ≡ true) → summedExact c j ≡ true
+unfolding summedExact
+sides-lit c j lit = both-and (both-and (lit resistance down) (lit resistance up)) (both-and (lit reactance down) (lit reactance up))
+
+pub exact-sum : ExactSum
+exact-sum c j = record {
+  exactly = λ h same.
+      let (ok, most) = number-facts c j (ap (λ (a : Refusal). a .number) (sym (summed-refusal c j) ∙ h)) in
+      let answer = summed-accepted c j ok most in
+      ap (λ (e : Evaluation). e .exact) answer
+      ∙ sides-lit c j (λ x r. exact-lit c j most x r
+      (sym (ap (λ (z : ℤ). rat (whole z)) (side-summed c j x r)) ∙ equal-rat (subst (λ (e : Evaluation). ExactSides c (parameter j sixteenths) (e .load)) answer same x r)));
+  lit = lit-sum c j;
+}

@@ -1,21 +1,24 @@
--- What is promised of the pieces of a subdivision, that the left one covers the first part of its parent's stretch and the right one the rest; of a lit exact flag, that every side is the exact one; and of the summed reading, how near its sides are to the exact ones.
+-- What is promised of the pieces of a subdivision, that the left one covers the first part of its parent's stretch and the right one the rest; of the exact flags, that they are lit exactly if every side is the exact one; and of the summed reading, how near its sides are to the exact ones.
 -- Assumes nothing.
 use mathlib.Core.Path.{_≡_}
-use mathlib.Core.Bool.{true}
+use mathlib.Core.Bool.{Bool, true}
 use Prim.Native.Nat.{ℕ, _+_, _^_, _≤_}
 use lib.IntN.{ℤ, pos}
 use Rattle.rational.specs.Rounding.{Rounding, down, up}
 use Rattle.rational.specs.Fraction.{Frac, Equal, _+ᶠ_, _*ᶠ_, _<ᶠ_, whole, complement}
 use Rattle.curve.specs.declared.Curve.{Curve}
+use Rattle.curve.specs.declared.Rect.{Rect}
+use Rattle.curve.specs.declared.Refusal.{Refusal}
+use Rattle.curve.specs.declared.Subdivision.{Subdivision}
 use Rattle.curve.specs.Rect.{Coordinate, side, Bounded}
 use Rattle.curve.specs.Curve.{point, pieceSum}
-use Rattle.curve.specs.Refusals.{Accepted, AcceptedAt, AcceptedSum}
+use Rattle.curve.specs.Refusals.{none, Accepted, AcceptedAt, AcceptedSum}
 use Rattle.curve.specs.Calls.{evaluated, subdivided, elevated}
 use Rattle.sixteenths.specs.Weights.{sixteenths}
 use Rattle.sixteenths.specs.Sixteenths.{sumOf, evaluatedSixteenths}
 use Rattle.ledger.specs.Ordinary.{Ordinary, InsideOf, loadAt, exactSide}
 use Rattle.ledger.specs.Ledger.{Piece, left, right, kept, parameter}
 use Rattle.ledger.specs.Exact.{edge, part, raised}
 
 -- where u on a piece lies on its parent: the left piece is the parent from 0 to t, the right one from t to 1
 abbrev pub placeOn : Piece → Frac → Frac → Frac
@@ -34,27 +37,42 @@ PiecesCover =
     (c : Curve) → Accepted c → (o : Ordinary) → InsideOf o c → (num den : ℕ) → AcceptedAt num den → AcceptedSum (pieceSum c) →
     (piece : Piece) → Covers c o num den piece
 
--- ---- a lit flag, whatever was rounded before: what it says is of the curve that the call was given
+-- ---- exact flags, whatever was rounded before: what they say is of the curve that the call was given
 
--- a lit evaluation's sides are the exact sides at num/den
+-- lit exactly if every side is exact: of a call that is not refused, all sides exact tells lit; and lit, which no refused call is, tells all sides exact
+pub record LitExactly (refusal : Refusal) (flag : Bool) (exact : Type 0) : Type 0 where
+  pub exactly : refusal ≡ none → exact → flag ≡ true
+  pub lit : flag ≡ true → exact
+
+-- the sides of a load are the exact sides at a place
+abbrev pub ExactSides : Curve → Frac → Rect → Type 0
+ExactSides c place load = (x : Coordinate) (r : Rounding) → Equal (whole (side x r load)) (exactSide c x r place)
+
+-- an evaluation at num/den
 abbrev pub ExactLoad : Type 0
 ExactLoad =
-    (c : Curve) (num den : ℕ) → evaluated c num den .exact ≡ true →
-    (x : Coordinate) (r : Rounding) → Equal (whole (side x r (evaluated c num den .load))) (exactSide c x r (parameter num den))
+    (c : Curve) (num den : ℕ) →
+    let e = evaluated c num den in LitExactly (e .refusal) (e .exact) (ExactSides c (parameter num den) (e .load))
 
--- a lit subdivision's control points have the sides of the curve that is subdivided exactly
+-- the control points of both pieces have the sides of the curve that is subdivided exactly
+abbrev pub SubdividedExactly : Curve → Frac → Subdivision → Type 0
+SubdividedExactly c t s =
+    (piece : Piece) (x : Coordinate) (r : Rounding) (k : ℕ) → k ≤ c .degree →
+    Equal (whole (side x r (point (kept piece s) k))) (part piece t (edge r c) .control x k)
+
 abbrev pub ExactPieces : Type 0
 ExactPieces =
-    (c : Curve) (num den : ℕ) → subdivided c num den .exact ≡ true →
-    (piece : Piece) (x : Coordinate) (r : Rounding) (k : ℕ) → k ≤ c .degree →
-    Equal (whole (side x r (point (kept piece (subdivided c num den)) k))) (part piece (parameter num den) (edge r c) .control x k)
+    (c : Curve) (num den : ℕ) →
+    let s = subdivided c num den in LitExactly (s .refusal) (s .exact) (SubdividedExactly c (parameter num den) s)
 
--- a lit elevation's control points have the exact sides
-abbrev pub ExactElevation : Type 0
-ExactElevation =
-    (c : Curve) → elevated c .exact ≡ true →
+-- the control points of a curve have the sides of the curve that is elevated exactly
+abbrev pub ElevatedExactly : Curve → Curve → Type 0
+ElevatedExactly c e =
     (x : Coordinate) (r : Rounding) (k : ℕ) → k ≤ c .degree + 1 →
-    Equal (whole (side x r (point (elevated c .curve) k))) (raised (edge r c) .control x k)
+    Equal (whole (side x r (point e k))) (raised (edge r c) .control x k)
+
+abbrev pub ExactElevation : Type 0
+ExactElevation = (c : Curve) → let e = elevated c in LitExactly (e .refusal) (e .exact) (ElevatedExactly c (e .curve))
 
 -- ---- the summed reading at j/16, of the curve that it is given
 
@@ -77,9 +95,8 @@ WithinAStep =
     let exact = exactSide c x r (parameter j sixteenths) in
     Bounded r exact s × LessThanAStep r s exact
 
--- a lit one's sides are the exact sides
+-- its flag is lit exactly if its sides are the exact sides at j/16
 abbrev pub ExactSum : Type 0
 ExactSum =
-    (c : Curve) (j : ℕ) → evaluatedSixteenths c j .exact ≡ true →
-    (x : Coordinate) (r : Rounding) →
-    Equal (whole (side x r (evaluatedSixteenths c j .load))) (exactSide c x r (parameter j sixteenths))
+    (c : Curve) (j : ℕ) →
+    let e = evaluatedSixteenths c j in LitExactly (e .refusal) (e .exact) (ExactSides c (parameter j sixteenths) (e .load))
