@@ -28,9 +28,10 @@
  *
  * A call with a pointer exact also tells whether it rounded: *exact becomes 1 where every affine map that it made, of
  * low and high sides in both coordinates, left no remainder, and 0 where some map was rounded. 1 says that the sides
- * are the exact ones of the curve that the call was given, whatever the calls before it rounded; 0 says only that some
- * map was rounded. Equal fractions num/den give equal flags. jusqani_evaluate_sixteenths makes no maps; its flag is
- * that of its four divisions, one for each side. A refused call leaves *exact as it was, so look at the answer first.
+ * are the exact ones of the curve that the call was given, whatever the calls before it rounded; 0 says that some side
+ * that the call gave is not the exact one. Equal fractions num/den give equal flags. jusqani_evaluate_sixteenths makes
+ * no maps; its flag is that of its four divisions, one for each side, and says the same. A refused call leaves *exact
+ * as it was, so look at the answer first.
  *
  * The caller provides valid buffers of the stated lengths; one that a call writes, *exact and *found too, overlaps no
  * other. A pointer must not be null, also where its length is 0. The calls keep no pointer and always return.

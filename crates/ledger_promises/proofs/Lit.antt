@@ -73,9 +73,9 @@ module _ (c : Curve) (num den : ℕ) (ok : Accepted c) (at : AcceptedAt num den)
   load-lit = go (decLt 0 num) (decLt num den)
     where
       go : Dec (0 < num) → Dec (num < den) → tableExact c num den ≡ true
-      go (no low) end = let e : 0 ≡ num = omega arith in subst (λ (n : ℕ). tableExact c n den ≡ true) e (lit-first c den (factors .positive))
+      go (no low) end = let e : 0 ≡ num = omega arith in subst (λ (n : ℕ). tableExact c n den ≡ true) e (lit-first c den)
       go (yes low) (no high) =
-          let e : den ≡ num = omega (arith, parameter-facts num den at .most) in subst (λ (n : ℕ). tableExact c n den ≡ true) e (lit-last c den (factors .positive))
+          let e : den ≡ num = omega (arith, parameter-facts num den at .most) in subst (λ (n : ℕ). tableExact c n den ≡ true) e (lit-last c den)
       go (yes low) (yes high) = inner-lit low high
 
 -- the load is the last control point of the left piece

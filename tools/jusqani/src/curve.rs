@@ -32,7 +32,7 @@ pub const VERDICT_LENGTH: usize = 4;
 /// The bytes of a card of the highest degree.
 pub const CARD_LENGTH: usize = card_length(MAX_DEGREE);
 
-/// The exact flag of a call that rounded some side.
+/// The exact flag of a call that gave some side that is not the exact one.
 const ROUNDED: u32 = 0;
 
 /// The numbers of a curve of this degree.

@@ -1,6 +1,6 @@
 //! The exact flags that came, tried: each is lit exactly where every side of the result is the exact one,
-//! and equal fractions have equal flags. Document 02 promises of a lit one that its sides are exact; that a
-//! dark one has a side that is not follows from how the sides go into each other.
+//! and equal fractions have equal flags. Document 02 asks of a lit one that its sides are exact; that a dark one
+//! has a side that is not is proved too.
 
 use crate::coverage::{Before, Line, Row};
 use crate::door::{curve_length, FOUR};
