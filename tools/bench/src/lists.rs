@@ -111,8 +111,9 @@ fn curve_of(sides: &[i32; CURVE_SIDES]) -> Curve {
         degree: MAX_DEGREE,
         ..Curve::default()
     };
-    for (point, four) in curve.points.iter_mut().zip(sides.as_chunks().0) {
-        *point = Rect::from(*four);
+    let fours = sides.chunks_exact(RECT_LENGTH);
+    for (point, four) in curve.points.iter_mut().zip(fours) {
+        *point = Rect::from([four[0], four[1], four[2], four[3]]);
     }
     curve
 }
