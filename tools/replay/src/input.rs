@@ -109,6 +109,13 @@ impl<R: BufRead> Input<R> {
         }))
     }
 
+    /// That the text ends inside a case, where a line begins.
+    pub fn cut_short(&self) -> Stop {
+        let what = "the input ends, and a call is due here, or the line with the column 0 that ends the case";
+        let (at, what) = (0, what.to_string());
+        self.malformed(self.bytes_passed, Fault { at, what })
+    }
+
     /// The records of the call on a list that begins at an offset. They are kept as they come, since the
     /// count may be larger than what the text holds.
     fn settings(&mut self, offset: u64, list: &List) -> Result<Vec<Setting>, Stop> {
@@ -190,7 +197,11 @@ mod tests {
 
     /// The offset, line and column where a text is malformed.
     fn malformed(text: &str) -> (u64, u64, usize) {
-        match stop_of(text.as_bytes()) {
+        place_of(stop_of(text.as_bytes()))
+    }
+
+    fn place_of(stop: Stop) -> (u64, u64, usize) {
+        match stop {
             Stop::Malformed(found) => (found.offset, found.line, found.column),
             Stop::Unreadable(error) => panic!("{error}"),
         }
@@ -206,6 +217,7 @@ mod tests {
         assert_eq!(input.request().unwrap(), Some(Request::Close));
         assert_eq!(input.card().unwrap().unwrap(), CARD.as_bytes());
         assert_eq!(input.request().unwrap(), None);
+        assert_eq!(place_of(input.cut_short()), (208, 9, 1));
         assert!(Input::new(&b""[..]).card().unwrap().is_none());
     }
 

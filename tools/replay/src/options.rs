@@ -35,14 +35,16 @@ record's box in turn, each with the whole budget, and chooses the first that end
 number is 0 to 65535. A card's curve has the sum of steps 0. A cut adds the degree to it, a raising 1, and
 a reading shows it with the degree added. Where it would pass 65535, a cut, a raising, a walk or a choice
 is refused with 17. A card answers 0 and its degree, and a refusal its number and place. A card or a call
-that is malformed or cut short ends the run with 99 and the offset of its first byte.
+that is malformed or cut short ends the run with 99 and the offset of its first byte; so does a case
+without its line with 0, with the offset where the input ends.
 
   --places  put two spaces and the place on the starting curve behind each accepted reading, as
             upper/lower in lowest terms, where both have at most 20 digits
   --help    print this
 
-Exit status: 0 the run went to the end, or nobody reads its output any more; 1 a card or a call
-is malformed or cut short; 2 bad usage, or the input cannot be read or the output not be written.
+Exit status: 0 the run went to the end, or nobody reads the output any more; 1 a card, a call or a
+case is malformed or cut short; 2 bad usage, or the input cannot be read, the output not be written,
+or the program not be built.
 ";
 
 #[derive(PartialEq, Debug)]

@@ -45,8 +45,7 @@ fn answer_cases<R: BufRead>(
     while let Some(card) = input.card()? {
         let (mut session, answer) = Session::open(&card, places);
         show(output, &answer.line())?;
-        while let Some(request) = input.request()? {
-            let Request::Call(call) = request else { break };
+        while let Request::Call(call) = input.request()?.ok_or_else(|| input.cut_short())? {
             show(output, &session.answer(call).line())?;
         }
     }

@@ -82,7 +82,6 @@ fn answers_the_sample_in_pieces_of_any_size() {
 #[test]
 fn runs_to_the_end() {
     expect(&run(&[], ""), 0, "", "");
-    expect(&run(&[], CARD), 0, "         0         1\n", "");
     let closed = format!("{CARD}         0\n");
     expect(&run(&[], &closed), 0, "         0         1\n", "");
     expect(&run(&[], DIPOLE), 0, DIPOLE_ANSWERS, "");
@@ -143,6 +142,22 @@ fn says_where_a_text_is_malformed() {
     let message = "the degree is 9, which is not 1 to 8\n";
     let message = format!("replay: standard input, line 1, column 1: {message}");
     expect(&output, 1, "        99         0\n", &message);
+}
+
+/// A case may end at no line end but that of its last line.
+#[test]
+fn says_where_a_case_is_cut_short() {
+    let answer = "         0         1\n";
+    let bounds = "         0         0         3        -3         2\n";
+    let what = "column 1: the input ends, and a call is due here, or the line with the column 0 that ends the case";
+    let output = run(&[], CARD);
+    let message = format!("replay: standard input, line 4, {what}\n");
+    let stopped = format!("{answer}        99        93\n");
+    expect(&output, 1, &stopped, &message);
+    let output = run(&[], &format!("{CARD}         0\n{CARD}         5\n"));
+    let message = format!("replay: standard input, line 9, {what}\n");
+    let stopped = format!("{answer}{answer}{bounds}        99       208\n");
+    expect(&output, 1, &stopped, &message);
 }
 
 const LIST: &str = "         8         6       500         2\n";
@@ -214,7 +229,7 @@ fn shows_places_where_it_is_asked_to() {
     // From 1/3 on, two thirds wide; a quarter of that is the place 1/2.
     let calls = "         3         1         3\n         1         1         4\n         1         5         4\n";
     let sixteenths = "         7         4\n         7        17\n";
-    let text = format!("{CARD}{calls}{sixteenths}");
+    let text = format!("{CARD}{calls}{sixteenths}         0\n");
     let shown = |arguments: &[&str]| {
         let output = run(arguments, &text);
         assert_eq!(output.status.code(), Some(0));
