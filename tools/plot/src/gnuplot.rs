@@ -35,7 +35,8 @@ pub fn picture(text: &str) -> Result<String, String> {
 fn not_run(error: io::Error) -> String {
     match error.kind() {
         ErrorKind::NotFound => {
-            "gnuplot is not on the path; Debian's package gnuplot-nox has it".to_string()
+            "gnuplot is not on the path: it draws the picture (Debian's package gnuplot-nox)"
+                .to_string()
         }
         _ => format!("gnuplot cannot be run: {error}"),
     }

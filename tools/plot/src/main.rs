@@ -8,6 +8,7 @@ mod frame;
 mod gnuplot;
 mod list;
 mod options;
+mod output;
 mod regions;
 mod smith;
 mod text;
@@ -23,7 +24,7 @@ use std::process::ExitCode;
 use jusqani::Curve;
 
 use answers::{Answers, Chosen, List};
-use options::{Options, USAGE};
+use options::{Drawing, Options, USAGE};
 
 /// The steps of an ohm.
 const OHM: f64 = 1024.0;
@@ -50,11 +51,7 @@ fn failed(message: String) -> Failure {
 fn main() -> ExitCode {
     let ended = match Options::of(env::args_os().skip(1)) {
         Ok(Options::Help) => show(USAGE),
-        Ok(Options::Draw {
-            card,
-            settings,
-            data,
-        }) => draw(&card, settings.as_deref(), data),
+        Ok(Options::Draw(drawing)) => draw(&drawing),
         Err(wrong) => Err(failed(format!("{wrong}\n{}", USAGE.trim_end()))),
     };
     match ended {
@@ -76,11 +73,22 @@ fn show(text: &str) -> Result<(), Failure> {
     }
 }
 
-/// Shows the picture of a card, or the data that it is drawn from. Nothing is shown before all of it is there.
-fn draw(card: &OsStr, settings: Option<&OsStr>, data: bool) -> Result<(), Failure> {
-    let (name, shown) = names(card);
-    let curve = read_card(card, &shown)?;
-    let list = settings.map(read_list).transpose()?;
+/// Writes a text to a file, or shows it where none is given.
+fn deliver(text: &str, output: Option<&OsStr>) -> Result<(), Failure> {
+    let Some(file) = output else {
+        return show(text);
+    };
+    output::write_whole(Path::new(file), text).map_err(|error| {
+        let name = file.to_string_lossy();
+        failed(format!("{name} cannot be written: {error}"))
+    })
+}
+
+/// Delivers the picture of a card, or the data that it is drawn from, once all of it is there.
+fn draw(asked: &Drawing) -> Result<(), Failure> {
+    let (name, shown) = names(&asked.card);
+    let curve = read_card(&asked.card, &shown)?;
+    let list = asked.settings.as_deref().map(read_list).transpose()?;
     let in_card = |refusal| refused(format!("{shown}: {refusal}"));
     let answers = Answers::of(curve).map_err(in_card)?;
     let chosen = list.map(|(list, name)| {
@@ -88,12 +96,13 @@ fn draw(card: &OsStr, settings: Option<&OsStr>, data: bool) -> Result<(), Failur
         Chosen::of(&curve, list).map_err(in_list)
     });
     let text = data::text(&name, &answers, chosen.transpose()?.as_ref());
-    if data {
-        return show(&text);
+    let output = asked.output.as_deref();
+    if asked.data {
+        return deliver(&text, output);
     }
     let picture = gnuplot::picture(&text).map_err(failed)?;
     let title = words::title(&name, curve.degree);
-    show(&gnuplot::titled(&picture, &title))
+    deliver(&gnuplot::titled(&picture, &title), output)
 }
 
 /// A card's name in the title, and in a message.

@@ -3,7 +3,7 @@
 mod common;
 
 use std::fs;
-use std::path::Path;
+use std::path::{Path, PathBuf};
 
 use common::{example, examples, expect_failure, run, run_on, written};
 use jusqani::Curve;
@@ -110,13 +110,57 @@ fn says_what_cannot_be_read() {
     expect_failure(&run(&[&card, Path::new(".")]), 2, message);
 }
 
+/// A folder of its own for one test.
+fn folder(name: &str) -> PathBuf {
+    let folder = Path::new(env!("CARGO_TARGET_TMPDIR")).join(name);
+    let _ = fs::remove_dir_all(&folder);
+    fs::create_dir(&folder).unwrap();
+    folder
+}
+
+#[test]
+fn writes_a_file_when_it_is_whole() {
+    let (folder, card) = (folder("whole"), example("dipole.card"));
+    let (data, output) = (Path::new("--data"), Path::new("--output"));
+    let (file, link) = (folder.join("data"), folder.join("link"));
+    let shown = run(&[data, &card]).stdout;
+    for written in [&file, &link] {
+        let ended = run(&[data, output, written, &card]);
+        assert_eq!((ended.status.code(), ended.stdout.len()), (Some(0), 0));
+        assert!(fs::read(&file).unwrap() == shown);
+        // What is there is replaced, and a link leads to it still.
+        fs::write(&file, "before").unwrap();
+        let _ = std::os::unix::fs::symlink("data", &link);
+    }
+    assert!(fs::symlink_metadata(&link).unwrap().is_symlink());
+    let refused = run(&[data, output, &file, &example("damaged/degree_nine.card")]);
+    assert_eq!(refused.status.code(), Some(1));
+    assert_eq!(fs::read(&file).unwrap(), b"before");
+    assert_eq!(fs::read_dir(&folder).unwrap().count(), 2);
+}
+
+#[test]
+fn says_what_cannot_be_written() {
+    let (folder, card) = (folder("unwritten"), example("dipole.card"));
+    let cannot = |file: &Path, why: &str| {
+        let output = run(&[Path::new("--data"), Path::new("--output"), file, &card]);
+        let message = format!("plot: {} cannot be written: {why}\n", file.display());
+        expect_failure(&output, 2, &message);
+    };
+    cannot(Path::new("/dev/null"), "it is no regular file");
+    cannot(&folder, "it is no regular file");
+    let missing = "No such file or directory (os error 2)";
+    cannot(&folder.join("none/data"), missing);
+    assert_eq!(fs::read_dir(&folder).unwrap().count(), 0);
+}
+
 #[test]
 fn says_how_it_is_used() {
     let help = run(&[Path::new("--help")]);
     assert_eq!(help.status.code(), Some(0));
     assert!(help
         .stdout
-        .starts_with(b"usage: plot [--data] CARD [SETTINGS] > picture.svg\n"));
+        .starts_with(b"usage: plot [--data] [--output FILE] CARD [SETTINGS]\n"));
     let usage = String::from_utf8(help.stdout).unwrap();
     expect_failure(&run(&[]), 2, &format!("plot: no card is given\n{usage}"));
 }
