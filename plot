@@ -3,17 +3,19 @@
 set -eu
 # shellcheck source=tools/build_once.sh
 . "$(dirname "$(readlink -f "$0")")/tools/build_once.sh" || exit 2
-program=target/tools/release/plot
+# shellcheck source=tools/builds.sh
+. "$root/tools/builds.sh" || exit 2
 
-make_plot() {
-    require cargo && cd tools && cargo build --release --locked --package plot
-}
+# The card may be standard input, the picture may go to a file, and only a picture needs gnuplot.
+reads=false writes=true needs=(gnuplot)
+for argument; do
+    case $argument in
+    -) reads=true ;;
+    --output) writes=false ;;
+    --data | --help | -h) needs=() ;;
+    esac
+done
 
-# A closed stream would be taken for one that is thrown away.
-[ -e /dev/fd/1 ] || {
-    echo 'plot: standard output cannot be written: it is closed' >&2
-    exit 2
-}
-"$root/tools/library" || exit 2
-build_once plot "$program" 'tools include target/staticlib/libjusqani.a' make_plot || exit 2
-exec "$root/$program" "$@"
+check_streams "$reads" "$writes"
+build_program plot ${needs[@]+"${needs[@]}"} || exit 2
+exec "$root/target/tools/release/plot" "$@"

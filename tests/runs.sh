@@ -25,11 +25,31 @@ expect() {
     check "$status" "$out" "$err" "$ended" 0 "$*"
 }
 
+# unread COMMAND..: runs a command whose output nobody reads any more.
+unread() {
+    { sleep 0.2 && "$@"; } | true
+    return "${PIPESTATUS[0]}"
+}
+
 # A directory with links to the usual tools and to nothing else.
 make_tools() {
     local tool
     mkdir "$scratch/tools"
-    for tool in bash cat cp dirname env find flock head mkdir mv readlink sleep touch; do
+    for tool in bash cat cp dirname env find flock head mkdir mv readlink rm sleep touch; do
         ln -s "$(command -v "$tool")" "$scratch/tools/$tool"
     done
+}
+
+# stand_in NAME TEXT: puts a script in the place of a program, in a directory of its own.
+stand_in() {
+    mkdir -p "$scratch/$1"
+    printf '#!/usr/bin/env bash\n%s\n' "$2" > "$scratch/$1/$1"
+    chmod +x "$scratch/$1/$1"
+}
+
+# make_tree NAME FILE..: a copy of some files of the repository, in the directory `tree`.
+make_tree() {
+    tree=$scratch/$1
+    mkdir "$tree"
+    cp -a --parents "${@:2}" "$tree"
 }
