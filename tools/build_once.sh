@@ -121,11 +121,11 @@ build_once() {
     local signal ended=0
     # shellcheck disable=SC2086
     up_to_date "$1" "$2" $3 && return
-    say 'building it first, which takes some minutes where it must be proved' "$1"
     for signal in INT TERM HUP; do
         # shellcheck disable=SC2064
         trap "interrupted $signal" "$signal"
     done
+    say 'building it first, which takes some minutes where it must be proved' "$1"
     build_under_lock "$@" || ended=1
     exec 9<&-
     trap - INT TERM HUP
