@@ -10,7 +10,7 @@ use Rattle.curve.specs.declared.Refusal.{Refusal}
 use Rattle.curve.specs.declared.Evaluation.{Evaluation}
 use Rattle.curve.specs.declared.Subdivision.{Subdivision}
 use Rattle.curve.specs.declared.Elevation.{Elevation}
-use Rattle.curve.specs.declared.Enclosure.{Enclosure}
+use Rattle.curve.specs.declared.BoundingRect.{BoundingRect}
 use Rattle.curve.specs.Limits.{maxDegree}
 use Rattle.curve.specs.Rect.{zeroRect}
 use Rattle.curve.specs.Curve.{zeroCurve, pieceSum, loadOf, leftOf, rightOf, tableExact, elevatedSum, elevatedOf, elevationExact, boundsOf}
@@ -52,7 +52,7 @@ elevation c b r = record { refusal = r; curve = c; exact = b }
 abbrev pub noElevation : Refusal → Elevation
 noElevation = elevation zeroCurve false
 
-abbrev pub enclosure : Rect → Refusal → Enclosure
+abbrev pub enclosure : Rect → Refusal → BoundingRect
 enclosure p r = record { refusal = r; rect = p }
 
 module _ (c : Curve) (num den : ℕ) where

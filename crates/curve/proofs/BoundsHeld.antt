@@ -8,7 +8,7 @@ use lib.Dec.{eqb}
 use Rattle.rational.specs.Rounding.{Rounding, down, up}
 use Rattle.rational.proofs.Order.{chosen}
 use Rattle.curve.specs.declared.Curve.{Curve}
-use Rattle.curve.specs.declared.Enclosure.{Enclosure}
+use Rattle.curve.specs.declared.BoundingRect.{BoundingRect}
 use Rattle.curve.specs.declared.Interval.{Interval}
 use Rattle.curve.specs.declared.Rect.{Rect}
 use Rattle.curve.specs.Rect.{Coordinate, resistance, reactance, along, end, least, greatest, hullInterval, hull}
@@ -49,7 +49,7 @@ bounds-held c = by-number (curveRefusal c .number) accepted refused
     accepted : curveRefusal c .number ≡ 0 → Held (bounded c .rect)
     accepted h =
         let ok = number-accepted c h in
-        subst (λ (x : Enclosure). Held (x .rect)) (sym (bounded-accepted c ok)) (hull-to-held (point c) (c .degree) (accepted-ready c ok .held))
+        subst (λ (x : BoundingRect). Held (x .rect)) (sym (bounded-accepted c ok)) (hull-to-held (point c) (c .degree) (accepted-ready c ok .held))
 
     refused : eqb (curveRefusal c .number) 0 ≡ false → Held (bounded c .rect)
-    refused e = subst (λ (x : Enclosure). Held (x .rect)) (sym (bounded-refused c e)) zero-held
+    refused e = subst (λ (x : BoundingRect). Held (x .rect)) (sym (bounded-refused c e)) zero-held

@@ -8,7 +8,7 @@ use Rattle.curve.specs.declared.Refusal.{Refusal}
 use Rattle.curve.specs.declared.Evaluation.{Evaluation}
 use Rattle.curve.specs.declared.Subdivision.{Subdivision}
 use Rattle.curve.specs.declared.Elevation.{Elevation}
-use Rattle.curve.specs.declared.Enclosure.{Enclosure}
+use Rattle.curve.specs.declared.BoundingRect.{BoundingRect}
 use Rattle.curve.specs.Rect.{zeroRect}
 use Rattle.curve.specs.Curve.{zeroCurve, pieceSum, loadOf, leftOf, rightOf, tableExact, elevatedSum, elevatedOf, elevationExact, boundsOf}
 use Rattle.curve.specs.Ohms.{ohmsOf, zeroOhms}
@@ -49,7 +49,7 @@ elevated c =
     (record { refusal = r; curve = zeroCurve; exact = false })
 
 -- the bounds (its span)
-unfoldable pub bounded : Curve → Enclosure
+unfoldable pub bounded : Curve → BoundingRect
 bounded c =
     let r = curveRefusal c in
     cond (eqb (r .number) 0) (record { refusal = r; rect = boundsOf c }) (record { refusal = r; rect = zeroRect })

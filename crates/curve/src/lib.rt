@@ -136,7 +136,7 @@ pub struct Elevation {
 }
 
 // The answer of bounds.
-pub struct Enclosure {
+pub struct BoundingRect {
     pub refusal: Refusal,
     pub rect: Rect,
 }
@@ -230,17 +230,17 @@ pub fn elevate(c: Curve) -> Elevation
 }
 
 // The least rectangle that holds every control point; refusals 1 to 3.
-pub fn bounds(c: Curve) -> Enclosure
+pub fn bounds(c: Curve) -> BoundingRect
     ensures { λ r. ⌜ r ≡ bounded c ⌝ }
 {
     let refusal = curve_refusal(c);
     if refusal.number != 0 {
-        return Enclosure {
+        return BoundingRect {
             refusal,
             rect: zero_rect(),
         };
     }
-    Enclosure {
+    BoundingRect {
         refusal,
         rect: hull_of(c),
     }

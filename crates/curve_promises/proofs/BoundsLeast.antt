@@ -16,7 +16,7 @@ use Rattle.bernstein.proofs.Table.{table-property}
 use Rattle.curve.specs.declared.Rect.{Rect}
 use Rattle.curve.specs.declared.Curve.{Curve}
 use Rattle.curve.specs.declared.Evaluation.{Evaluation}
-use Rattle.curve.specs.declared.Enclosure.{Enclosure}
+use Rattle.curve.specs.declared.BoundingRect.{BoundingRect}
 use Rattle.curve.specs.Rect.{Coordinate, resistance, reactance, side, Outward, Inside, affineRect, least, greatest, hullInterval, hull}
 use Rattle.curve.specs.Curve.{point, loadOf, hullTo, boundsOf}
 use Rattle.curve.specs.Refusals.{AcceptedAt}
@@ -128,7 +128,7 @@ load-inside c num den at o h =
 pub least-bounds : LeastBounds
 unfolding boundsOf
 least-bounds c a =
-    subst (λ (x : Enclosure). ((k : ℕ) → k ≤ c .degree → Inside (point c k) (x .rect)) × ((p : Rect) → ((k : ℕ) → k ≤ c .degree → Inside (point c k) p) → Inside (x .rect) p)) (sym (bounded-accepted c a))
+    subst (λ (x : BoundingRect). ((k : ℕ) → k ≤ c .degree → Inside (point c k) (x .rect)) × ((p : Rect) → ((k : ℕ) → k ≤ c .degree → Inside (point c k) p) → Inside (x .rect) p)) (sym (bounded-accepted c a))
     (hull-holds (point c) (c .degree), hull-least (point c) (c .degree))
 
 pub load-in-bounds : LoadInBounds

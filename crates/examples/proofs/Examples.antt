@@ -3,7 +3,7 @@
 use mathlib.Core.Path.{refl}
 use lib.Ieee.{ofBits}
 use Rattle.rational.specs.Rounding.{floor, ceiling, quotient, divisible}
-use Rattle.rational.specs.Fraction.{_+ᶠ_, _*ᶠ_, _^ᶠ_, whole, complement}
+use Rattle.rational.specs.Fraction.{_+ᶠ_, _*ᶠ_, _^ᶠ_, whole, complement, parameter}
 use Rattle.bernstein.specs.Affine.{affine, affineExact}
 use Rattle.bernstein.specs.Bernstein.{choose, sumTo, term, bernstein}
 use Rattle.bernstein.specs.DeCasteljau.{allBelow, table, value, left, right, everyMap}
@@ -11,7 +11,6 @@ use Rattle.bernstein.specs.WholeSum.{weight, totalBelow, wholeSum}
 use Rattle.sixteenths.specs.Sixteenths.{sumOf, summedSide, sideExact, summedInterval, summedLoad, summedExact, numeratorRefusal, sixteenthsRefusal, evaluatedSixteenths}
 use Rattle.columns.specs.Column.{digitsBefore, digits, text, column, valueAfter, hasMinus, signed, decode, sameBytes, readBytes, readAt}
 use Rattle.card_text.specs.Reading.{degreeOf, intervalAt, rectAt, decoded, columnRefusal, lineEndRefusal, endsRefusal, rowRefusal, rowsRefusal, shortRefusal, lengthRefusal, headerRefusal, cardRefusal, readCard}
-use Rattle.ledger.specs.Ledger.{parameter}
 use Rattle.search.specs.Box.{within, disjoint, inBox, apartFrom, areLimits, isBox}
 use Rattle.search.specs.Walk.{visitAt, walked}
 use Rattle.search.specs.Search.{effortRefusal, boxRefusal, searchRefusal, searched, endsInside}

@@ -7,7 +7,7 @@ use lib.IntN.{ℤ, pos, negsuc}
 use lib.Ieee.{Float, nan, binary32, ofBits}
 use lib.ListN.{replicate}
 use Rattle.rational.specs.Rounding.{down}
-use Rattle.rational.specs.Fraction.{Frac}
+use Rattle.rational.specs.Fraction.{Frac, parameter}
 use Rattle.curve.specs.declared.Curve.{Curve}
 use Rattle.curve.specs.declared.Rect.{Rect}
 use Rattle.curve.specs.Rect.{resistance}
@@ -16,7 +16,6 @@ use Rattle.curve.specs.Calls.{evaluated, subdivided, elevated, bounded}
 use Rattle.sixteenths.specs.Sixteenths.{evaluatedSixteenths}
 use Rattle.card_text.specs.Reading.{readCard}
 use Rattle.ledger.specs.Ordinary.{exactSide}
-use Rattle.ledger.specs.Ledger.{parameter}
 use Rattle.search.specs.Verdict.{inside, outside, spent, undecided}
 use Rattle.search.specs.Search.{searched}
 use Rattle.settings.specs.declared.Setting.{Setting}

@@ -7,7 +7,7 @@ use lib.Ieee.{Float}
 use Rattle.curve.specs.declared.Evaluation.{Evaluation}
 use Rattle.curve.specs.declared.Subdivision.{Subdivision}
 use Rattle.curve.specs.declared.Elevation.{Elevation}
-use Rattle.curve.specs.declared.Enclosure.{Enclosure}
+use Rattle.curve.specs.declared.BoundingRect.{BoundingRect}
 use Rattle.card_text.specs.declared.CardRead.{CardRead}
 use Rattle.curve.specs.Rect.{sides}
 use Rattle.search.specs.declared.SearchAnswer.{SearchAnswer}
@@ -29,8 +29,8 @@ GivesSubdivision s left right = GivesBothNumber (s .refusal) (curveNumbers (s .l
 abbrev pub GivesElevation : Elevation → List ℤ → ℕ → ℕ → List ℤ → ℕ → Type 0
 GivesElevation e raised = GivesNumber (e .refusal) (curveNumbers (e .curve)) raised (flagNumber (e .exact))
 
-abbrev pub GivesEnclosure : Enclosure → List ℤ → ℕ → List ℤ → Type 0
-GivesEnclosure e = Gives (e .refusal) (sides (e .rect))
+abbrev pub GivesBounds : BoundingRect → List ℤ → ℕ → List ℤ → Type 0
+GivesBounds e = Gives (e .refusal) (sides (e .rect))
 
 abbrev pub GivesSearch : SearchAnswer → List ℕ → ℕ → List ℕ → Type 0
 GivesSearch a = Gives (a .refusal) (verdictNumbers (a .verdict))

@@ -15,7 +15,7 @@ ghost use Rattle.foreign.specs.Calls.{
   GivesEvaluation,
   GivesSubdivision,
   GivesElevation,
-  GivesEnclosure,
+  GivesBounds,
   GivesSearch,
   GivesChoice,
   GivesFound,
@@ -148,7 +148,7 @@ pub extern "C" fn jusqani_elevate(
 // The least rectangle that holds the curve's; refusals 1 to 3 and 12.
 #[no_mangle]
 pub extern "C" fn jusqani_bounds(degree: u32, sides: &[i32], rect: &mut [i32]) -> u64
-    ensures { λ r. ⌜ GivesEnclosure (bounded (curveFrom degree 0 (now (sides .entry)))) (now (rect .entry)) r (now (rect .exit)) ⌝ }
+    ensures { λ r. ⌜ GivesBounds (bounded (curveFrom degree 0 (now (sides .entry)))) (now (rect .entry)) r (now (rect .exit)) ⌝ }
 {
     let answer = curve::bounds(curve_from(degree, 0, sides));
     let refusal = with_room(answer.refusal, RECT_LENGTH, rect.len());

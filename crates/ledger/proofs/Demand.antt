@@ -7,7 +7,7 @@ use Prim.Native.Nat.{ℕ, _+_, _<_}
 use native.Mathlib.Nat.{zero-add, add-zero, add-assoc}
 use lib.Dec.{T, eqb, eqb→eq}
 use lib.IntN.{pos}
-use Rattle.rational.specs.Fraction.{Frac, _*ᶠ_, complement}
+use Rattle.rational.specs.Fraction.{Frac, _*ᶠ_, complement, parameter}
 use Rattle.rational.proofs.Rational.{ℚ, rat, rat-add, rat-mul, embed, _+ℚ_, _*ℚ_, zero-+ℚ, one-*ℚ, *ℚ-zero, *ℚ-one, +ℚ-zero}
 use Rattle.curve.specs.declared.Curve.{Curve}
 use Rattle.curve.specs.declared.Rect.{Rect}
@@ -23,7 +23,7 @@ use Rattle.sixteenths.specs.Weights.{sixteenths}
 use Rattle.sixteenths.proofs.Answers.{number-numerator, sixteenth-accepted, refusal-numerator, summed-accepted, summed-refusal}
 use Rattle.ledger.specs.Ordinary.{Ordinary, InsideOf}
 use Rattle.ledger.specs.Ledger as Book
-use Rattle.ledger.specs.Ledger.{Ledger, Call, evaluate, evaluateSixteenths, subdivide, elevate, left, right, opened, parameter, placeOf, subdividedSum, refused, entered, after, refusalOf, answerOf, leaves}
+use Rattle.ledger.specs.Ledger.{Ledger, Call, evaluate, evaluateSixteenths, subdivide, elevate, left, right, opened, placeOf, subdividedSum, refused, entered, after, refusalOf, answerOf, leaves}
 use Rattle.ledger.specs.Claim.{Sound, AtCall, Along, Demand, OneEvaluation}
 use Rattle.ledger.proofs.Stretch.{Stretch, whole-stretch, joined, renamed}
 use Rattle.ledger.proofs.Steps.{left-stretch, right-stretch, elevated-stretch}

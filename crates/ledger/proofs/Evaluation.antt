@@ -6,7 +6,7 @@ use native.Mathlib.Nat.{mul-zero, zero-mul, one-mul, zero-add, mul-le-mul-left}
 use native.Mathlib.Omega.{arith}
 use lib.IntN.{ℤ, pos}
 use Rattle.rational.specs.Rounding.{Rounding, down, up}
-use Rattle.rational.specs.Fraction.{Frac, whole, _+ᶠ_}
+use Rattle.rational.specs.Fraction.{Frac, whole, _+ᶠ_, parameter}
 use Rattle.rational.proofs.Rational.{ℚ, rat, rat-add, rat-whole, embed, _+ℚ_, _*ℚ_}
 use Rattle.rational.proofs.RationalOrder.{_≤ℚ_, ≤ℚ-of, ≤ᶠ-of, ≤ℚ-refl}
 use Rattle.rational.proofs.Division.{ratio-weights}
@@ -27,7 +27,6 @@ use Rattle.sixteenths.specs.Weights.{sixteenths}
 use Rattle.sixteenths.specs.Sixteenths.{sumOf, summedSide, summedLoad}
 use Rattle.sixteenths.proofs.Loads.{side-summed}
 use Rattle.ledger.specs.Ordinary.{Ordinary, InsideOf, loadAt, exactSide}
-use Rattle.ledger.specs.Ledger.{parameter}
 use Rattle.ledger.specs.Claim as Claim
 use Rattle.ledger.specs.Claim.{Sound}
 use Rattle.ledger.proofs.Stretch.{Stretch}

@@ -5,7 +5,7 @@ use Prim.Native.Nat.{ℕ, suc, pred, _+_, _*_, _-_, _≤_, _<_}
 use native.Mathlib.Numerals.{add-one}
 use native.Mathlib.Omega.{arith}
 use lib.IntN.{ℤ, pos, _*ℤ_}
-use Rattle.rational.specs.Fraction.{Frac, complement}
+use Rattle.rational.specs.Fraction.{Frac, complement, parameter}
 use Rattle.rational.proofs.Rational.{ℚ, rat, embed, _+ℚ_, _-ℚ_, _*ℚ_, zero-+ℚ, one-*ℚ, *ℚ-comm, +ℚ-cancel, rat-complement}
 use Rattle.rational.proofs.Division.{ratio, ratio-weights, ratio-equal, rat-ratio}
 use Rattle.bernstein.specs.Affine.{exactAffine}
@@ -27,7 +27,7 @@ use Rattle.curve.proofs.Accepted.{accepted-facts}
 use Rattle.curve.proofs.Points.{sides, side-left, side-right, side-elevated}
 use Rattle.curve.proofs.Pieces.{left-point, right-point, elevated-point}
 use Rattle.ledger.specs.Ordinary.{Ordinary}
-use Rattle.ledger.specs.Ledger.{left as leftPiece, right as rightPiece, parameter}
+use Rattle.ledger.specs.Ledger.{left as leftPiece, right as rightPiece}
 use Rattle.ledger.specs.Exact.{part, raised}
 use Rattle.ledger.proofs.Stretch.{Stretch}
 

@@ -5,7 +5,7 @@ use mathlib.Core.List.{List, [], _∷_}
 use Prim.Native.Nat.{ℕ, _+_}
 use lib.IntN.{ℤ, pos}
 use Rattle.rational.specs.Rounding.{Rounding, down, up}
-use Rattle.rational.specs.Fraction.{Frac, _+ᶠ_, _≤ᶠ_, whole}
+use Rattle.rational.specs.Fraction.{Frac, _+ᶠ_, _≤ᶠ_, whole, parameter}
 use Rattle.curve.specs.declared.Curve.{Curve}
 use Rattle.curve.specs.declared.Rect.{Rect}
 use Rattle.curve.specs.Rect.{Coordinate, side, Bounded}
@@ -14,7 +14,7 @@ use Rattle.curve.specs.Calls.{evaluated}
 use Rattle.sixteenths.specs.Weights.{sixteenths}
 use Rattle.sixteenths.specs.Sixteenths.{evaluatedSixteenths}
 use Rattle.ledger.specs.Ordinary.{Ordinary, InsideOf, loadAt, exactSide}
-use Rattle.ledger.specs.Ledger.{Ledger, Call, evaluate, evaluateSixteenths, subdivide, elevate, opened, parameter, placeOf, refused, after, refusalOf, leaves}
+use Rattle.ledger.specs.Ledger.{Ledger, Call, evaluate, evaluateSixteenths, subdivide, elevate, opened, placeOf, refused, after, refusalOf, leaves}
 
 -- a side is not farther out than the exact side by more than d steps
 abbrev pub Near : Rounding → ℕ → ℤ → Frac → Type 0

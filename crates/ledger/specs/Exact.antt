@@ -2,14 +2,14 @@
 -- Assumes nothing.
 use Prim.Native.Nat.{_+_, _-_}
 use Rattle.rational.specs.Rounding.{Rounding}
-use Rattle.rational.specs.Fraction.{Frac, whole}
+use Rattle.rational.specs.Fraction.{Frac, whole, parameter}
 use Rattle.bernstein.specs.Affine.{exactAffine}
 use Rattle.bernstein.specs.DeCasteljau as DeCasteljau
 use Rattle.curve.specs.declared.Curve.{Curve}
 use Rattle.curve.specs.Rect.{side}
 use Rattle.curve.specs.Curve.{point}
 use Rattle.ledger.specs.Ordinary.{Ordinary}
-use Rattle.ledger.specs.Ledger.{Piece, left, right, parameter}
+use Rattle.ledger.specs.Ledger.{Piece, left, right}
 
 -- the low sides or the high sides of a curve, as an ordinary curve
 abbrev pub edge : Rounding → Curve → Ordinary

@@ -2,10 +2,10 @@
 -- The ledger is fed the starting curve and the calls, and no answers.
 -- Assumes nothing.
 use mathlib.Core.Bool.{cond}
-use Prim.Native.Nat.{ℕ, suc, pred, _+_, suc-le-suc, zero-le}
+use Prim.Native.Nat.{ℕ, _+_}
 use lib.Dec.{eqb}
 use lib.IntN.{pos}
-use Rattle.rational.specs.Fraction.{Frac, _+ᶠ_, _*ᶠ_, whole, complement}
+use Rattle.rational.specs.Fraction.{Frac, _+ᶠ_, _*ᶠ_, whole, parameter, complement}
 use Rattle.curve.specs.declared.Curve.{Curve}
 use Rattle.curve.specs.declared.Refusal.{Refusal}
 use Rattle.curve.specs.declared.Subdivision.{Subdivision}
@@ -61,10 +61,6 @@ pub record Ledger : Type 0 where
 
 unfoldable pub opened : Curve → Ledger
 opened c = record { degree = c .degree; start = whole (pos 0); width = whole (pos 1); sum = 0; brought = c .sum }
-
--- num/den; a den of 0 is refused before this is used
-unfoldable pub parameter : ℕ → ℕ → Frac
-parameter num den = record { upper = pos num; lower = suc (pred den); positive = suc-le-suc zero-le }
 
 -- the sum of steps after a subdivision, and after an elevation
 abbrev pub subdividedSum : Ledger → ℕ

@@ -3,7 +3,7 @@
 use mathlib.Core.Path.{_≡_, sym, ap, ap₂, _∙_, subst, subst₂, fun-ext}
 use Prim.Native.Nat.{ℕ, _+_, _-_}
 use native.Mathlib.Nat.{mul-zero}
-use Rattle.rational.specs.Fraction.{Frac, Equal, _*ᶠ_, complement}
+use Rattle.rational.specs.Fraction.{Frac, Equal, _*ᶠ_, complement, parameter}
 use Rattle.rational.proofs.Rational.{ℚ, rat, rat-add, rat-mul, _+ℚ_, _*ℚ_, zero-+ℚ}
 use Rattle.rational.proofs.RationalOrder.{equal-of}
 use Rattle.bernstein.proofs.Curve.{curve, bernstein-curve}
@@ -18,7 +18,7 @@ use Rattle.curve.proofs.Accepted.{parameter-facts}
 use Rattle.curve.proofs.Answers.{subdivided-accepted}
 use Rattle.curve.proofs.Pieces.{left-degree, right-degree}
 use Rattle.ledger.specs.Ordinary.{Ordinary, InsideOf, loadAt}
-use Rattle.ledger.specs.Ledger.{Piece, left, right, kept, parameter}
+use Rattle.ledger.specs.Ledger.{Piece, left, right, kept}
 use Rattle.ledger.specs.Exact.{part}
 use Rattle.ledger_promises.specs.Promises.{placeOn, Covers, PiecesCover}
 use Rattle.ledger.proofs.Stretch.{Stretch}

@@ -8,7 +8,7 @@ use native.Mathlib.Decide.{decLt}
 use native.Mathlib.Omega.{arith}
 use lib.IntN.{ℤ}
 use Rattle.rational.specs.Rounding.{Rounding}
-use Rattle.rational.specs.Fraction.{whole}
+use Rattle.rational.specs.Fraction.{whole, parameter}
 use Rattle.rational.proofs.Rational.{rat, embed, equal-rat}
 use Rattle.rational.proofs.RationalOrder.{equal-of}
 use Rattle.bernstein.specs.Affine.{affine, affineExact, exactAffine}
@@ -37,7 +37,7 @@ use Rattle.curve.proofs.Pieces.{left-point, right-point, elevated-point}
 use Rattle.curve.proofs.RectSides.{sides-exact}
 use Rattle.curve_promises.proofs.Flags.{lit-accepted, lit-first, lit-last, table-lit, elevation-lit}
 use Rattle.ledger.specs.Ordinary.{exactSide}
-use Rattle.ledger.specs.Ledger.{Piece, left, right, kept, parameter}
+use Rattle.ledger.specs.Ledger.{Piece, left, right, kept}
 use Rattle.ledger_promises.specs.Promises.{ExactSides, ExactLoad, SubdividedExactly, ExactPieces, ElevatedExactly, ExactElevation}
 use Rattle.ledger.specs.Exact.{edge, part, raised}
 use Rattle.ledger.proofs.Steps.{exact-map, exact-mean}

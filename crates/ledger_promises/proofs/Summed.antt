@@ -6,7 +6,7 @@ use Prim.Native.Nat.{ℕ, _-_, _^_, _≤_, _<_}
 use lib.IntN.{ℤ, pos, negsuc, _+ℤ_, -ℤ-+ℤ-cancel}
 use lib.Signed.{_≤ℤ_, <ℤ-irrefl}
 use Rattle.rational.specs.Rounding.{Rounding, down, up, quotient, divisible}
-use Rattle.rational.specs.Fraction.{Frac, whole, _+ᶠ_, _*ᶠ_}
+use Rattle.rational.specs.Fraction.{Frac, whole, _+ᶠ_, _*ᶠ_, parameter}
 use Rattle.rational.proofs.Order.{suc-<ℤ}
 use Rattle.rational.proofs.Rational.{ℚ, rat, equal-rat, rat-add, rat-mul, rat-whole, embed, embed-add, _+ℚ_, _*ℚ_, +ℚ-assoc, +ℚ-zero}
 use Rattle.rational.proofs.RationalOrder.{_≤ℚ_, ≤ℚ-of, equal-of, +ℚ-mono-right}
@@ -30,7 +30,6 @@ use Rattle.sixteenths.specs.Sixteenths.{sumOf, summedSide, sideExact, summedExa
 use Rattle.sixteenths.proofs.Answers.{number-facts, sixteenth-accepted, summed-accepted, summed-refusal, summed-lit}
 use Rattle.sixteenths.proofs.Loads.{side-summed}
 use Rattle.ledger.specs.Ordinary.{exactSide}
-use Rattle.ledger.specs.Ledger.{parameter}
 use Rattle.ledger_promises.specs.Promises.{SumIsExact, LessThanAStep, WithinAStep, ExactSides, ExactSum}
 use Rattle.ledger.proofs.Steps.{parameter-ratio}
 use Rattle.ledger.proofs.Evaluation.{inward, near-bounded}

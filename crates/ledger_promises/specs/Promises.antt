@@ -5,7 +5,7 @@ use mathlib.Core.Bool.{Bool, true}
 use Prim.Native.Nat.{ℕ, _+_, _^_, _≤_}
 use lib.IntN.{ℤ, pos}
 use Rattle.rational.specs.Rounding.{Rounding, down, up}
-use Rattle.rational.specs.Fraction.{Frac, Equal, _+ᶠ_, _*ᶠ_, _<ᶠ_, whole, complement}
+use Rattle.rational.specs.Fraction.{Frac, Equal, _+ᶠ_, _*ᶠ_, _<ᶠ_, whole, complement, parameter}
 use Rattle.curve.specs.declared.Curve.{Curve}
 use Rattle.curve.specs.declared.Rect.{Rect}
 use Rattle.curve.specs.declared.Refusal.{Refusal}
@@ -17,7 +17,7 @@ use Rattle.curve.specs.Calls.{evaluated, subdivided, elevated}
 use Rattle.sixteenths.specs.Weights.{sixteenths}
 use Rattle.sixteenths.specs.Sixteenths.{sumOf, evaluatedSixteenths}
 use Rattle.ledger.specs.Ordinary.{Ordinary, InsideOf, loadAt, exactSide}
-use Rattle.ledger.specs.Ledger.{Piece, left, right, kept, parameter}
+use Rattle.ledger.specs.Ledger.{Piece, left, right, kept}
 use Rattle.ledger.specs.Exact.{edge, part, raised}
 
 -- where u on a piece lies on its parent: the left piece is the parent from 0 to t, the right one from t to 1

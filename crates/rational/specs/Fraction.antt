@@ -1,7 +1,7 @@
 -- Fractions, as pairs of whole numbers that are added, multiplied and compared by multiplying out. Equal fractions may be different pairs.
 -- Assumes nothing.
 use mathlib.Core.Path.{_≡_}
-use Prim.Native.Nat.{ℕ, zero, suc, _*_, _<_}
+use Prim.Native.Nat.{ℕ, zero, suc, pred, _*_, _<_, suc-le-suc, zero-le}
 use native.Mathlib.Nat.{mul-pos}
 use lib.IntN.{ℤ, pos, _+ℤ_, _-ℤ_, _*ℤ_}
 use lib.Signed.{_≤ℤ_}
@@ -42,6 +42,10 @@ pub record Equal (a b : Frac) : Type 0 where
 -- a whole number
 unfoldable pub whole : ℤ → Frac
 whole z = record { upper = z; lower = 1; positive = lit< tt }
+
+-- num/den, the parameter of a call; a den of 0 counts as 1 here, and every call refuses it
+unfoldable pub parameter : ℕ → ℕ → Frac
+parameter num den = record { upper = pos num; lower = suc (pred den); positive = suc-le-suc zero-le }
 
 -- 1 − x
 unfoldable pub complement : Frac → Frac

@@ -8,7 +8,7 @@ use native.Mathlib.Nat.{zero-add, mul-zero}
 use lib.Dec.{T, eqb, eqb→eq}
 use lib.Signed.{_≤ℤ_}
 use Rattle.rational.specs.Rounding.{Rounding, down, up}
-use Rattle.rational.specs.Fraction.{Frac, whole}
+use Rattle.rational.specs.Fraction.{Frac, whole, parameter}
 use Rattle.rational.proofs.Rational.{ℚ, rat, embed}
 use Rattle.rational.proofs.RationalOrder.{≤ᶠ-of, ≤ℚ-refl, embed-mono}
 use Rattle.bernstein.proofs.Rounded.{Side, Near, error}
@@ -25,7 +25,7 @@ use Rattle.curve.proofs.Accepted.{accepted-facts, parameter-facts}
 use Rattle.curve.proofs.Answers.{subdivision, subdivided-accepted, elevated-accepted}
 use Rattle.curve.proofs.Pieces.{left-degree, right-degree, elevated-degree}
 use Rattle.ledger.specs.Ordinary.{Ordinary, InsideOf, exactSide}
-use Rattle.ledger.specs.Ledger.{Ledger, Piece, Call, evaluate, evaluateSixteenths, subdivide, elevate, left, right, kept as keeps, opened, parameter, subdividedSum, refused, entered, after, answerOf, leaves}
+use Rattle.ledger.specs.Ledger.{Ledger, Piece, Call, evaluate, evaluateSixteenths, subdivide, elevate, left, right, kept as keeps, opened, subdividedSum, refused, entered, after, answerOf, leaves}
 use Rattle.ledger.specs.Exact.{edge, part}
 use Rattle.ledger.specs.Claim as Claimed
 use Rattle.ledger.specs.Claim.{Sound}

@@ -6,7 +6,7 @@ use mathlib.Core.List.{List, [], _∷_}
 use Prim.Native.Nat.{ℕ, _+_, _≤_}
 use lib.Dec.{eqb}
 use Rattle.rational.specs.Rounding.{Rounding}
-use Rattle.rational.specs.Fraction.{Frac}
+use Rattle.rational.specs.Fraction.{Frac, parameter}
 use Rattle.curve.specs.declared.Curve.{Curve}
 use Rattle.curve.specs.declared.Rect.{Rect}
 use Rattle.curve.specs.Rect.{Coordinate, side, Bounded}
@@ -16,7 +16,7 @@ use Rattle.curve.specs.Calls.{evaluated}
 use Rattle.sixteenths.specs.Weights.{sixteenths}
 use Rattle.sixteenths.specs.Sixteenths.{evaluatedSixteenths}
 use Rattle.ledger.specs.Ordinary.{Ordinary, exactSide}
-use Rattle.ledger.specs.Ledger.{Ledger, Call, evaluate, evaluateSixteenths, subdivide, elevate, opened, parameter, placeOf, refusalOf, leaves, after}
+use Rattle.ledger.specs.Ledger.{Ledger, Call, evaluate, evaluateSixteenths, subdivide, elevate, opened, placeOf, refusalOf, leaves, after}
 use Rattle.ledger.specs.Exact.{edge, part, raised}
 use Rattle.ledger.specs.Claim.{Near}
 

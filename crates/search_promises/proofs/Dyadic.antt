@@ -7,13 +7,12 @@ use native.Mathlib.Omega.{arith}
 use lib.Dec.{lit≤}
 use lib.Pow.{pow-pos}
 use lib.IntN.{pos, _*ℤ_}
-use Rattle.rational.specs.Fraction.{complement}
+use Rattle.rational.specs.Fraction.{complement, parameter}
 use Rattle.rational.proofs.Rational.{ℚ, rat, embed, embed-add, _+ℚ_, _-ℚ_, _*ℚ_, rational-ring, *ℚ-assoc, *ℚ-distrib-right, *ℚ-one, one-*ℚ, -ℚ-cancel, +ℚ-cancel, +ℚ-comm, +ℚ-invr, negℚ}
 use Rattle.rational.proofs.RationalOrder.{_≤ℚ_, +ℚ-mono-right, *ℚ-mono-right, *ℚ-nonneg, embed-mono}
 use Rattle.rational.proofs.Order.{pos-mono}
 use Rattle.rational.proofs.Division.{ratio, ratio-mul, ratio-equal, rat-ratio, equal-cancel, ratio-weights}
 use Rattle.curve.specs.Inner.{Factors}
-use Rattle.ledger.specs.Ledger.{parameter}
 use Rattle.ledger.proofs.Steps.{parameter-ratio, complement-ratio}
 
 -- 1/2

@@ -11,7 +11,7 @@ use lib.Dec.{T}
 use lib.IntN.{ℤ, pos, _*ℤ_}
 use lib.Signed.{leZ, ltZ, _≤ℤ_, _<ℤ_, leZ-yes, ltZ-yes, clashℤ}
 use Rattle.rational.specs.Rounding.{Rounding, down, up}
-use Rattle.rational.specs.Fraction.{Frac, whole, _≤ᶠ_}
+use Rattle.rational.specs.Fraction.{Frac, whole, _≤ᶠ_, parameter}
 use Rattle.rational.proofs.Order.{≤ℤ-total}
 use Rattle.rational.proofs.Rational.{rat, embed}
 use Rattle.rational.proofs.RationalOrder.{_≤ℚ_, ≤ℚ-trans, ≤ᶠ-of, ≤ℚ-of, embed-mono, embed-reflects}
@@ -23,7 +23,6 @@ use Rattle.curve.specs.Calls.{bounded}
 use Rattle.curve.specs.Refusals.{Accepted, AcceptedSum}
 use Rattle.curve.proofs.Tests.{both}
 use Rattle.ledger.specs.Ordinary.{Ordinary, InsideOf, loadAt}
-use Rattle.ledger.specs.Ledger.{parameter}
 use Rattle.search.specs.declared.Verdict.the-variants.{Inside as InsideV}
 use Rattle.search.specs.Verdict.{reported, inside, outside}
 use Rattle.search.specs.Box.{within, disjoint, inBox, apartFrom}

@@ -7,7 +7,7 @@ use lib.Dec.{leb, eqb}
 use Rattle.curve.specs.declared.Rect.{Rect}
 use Rattle.curve.specs.declared.Curve.{Curve}
 use Rattle.curve.specs.declared.Refusal.{Refusal}
-use Rattle.curve.specs.declared.Enclosure.{Enclosure}
+use Rattle.curve.specs.declared.BoundingRect.{BoundingRect}
 use Rattle.curve.specs.declared.Subdivision.{Subdivision}
 use Rattle.curve.specs.Curve.{SameCurve}
 use Rattle.curve.specs.Refusals.{_orElse_, unless, sumRefusal}
@@ -29,7 +29,7 @@ same-effort c e same depth budget =
     ap₂ (λ (s n : ℕ). unless (leb depth maxDepth) 8 orElse unless (leb 1 budget && leb budget maxBudget) 9 orElse sumRefusal (s + depth * n)) (same .sums) (same .rest .degrees)
 
 -- the visit of a piece with these bounds
-abbrev pub visitWith : Rect → ℕ → Verdict → Enclosure → Visit
+abbrev pub visitWith : Rect → ℕ → Verdict → BoundingRect → Visit
 visitWith box budget v x = visitBy (goesOn v) (eqb (countOf v) budget) (inBox (x .rect) box) (apartFrom (x .rect) box)
 
 module _ (c e : Curve) (box : Rect) (budget : ℕ) (same : SameCurve c e) where
@@ -41,9 +41,9 @@ module _ (c e : Curve) (box : Rect) (budget : ℕ) (same : SameCurve c e) where
 
   walks : (below depth index : ℕ) (v : Verdict) → walked box budget below c depth index v ≡ walked box budget below e depth index v
   unfolding walked visitAt
-  walks zero depth index v = ap (λ (x : Enclosure). after (visitWith box budget v x) depth index v (noted depth index)) bounds
+  walks zero depth index v = ap (λ (x : BoundingRect). after (visitWith box budget v x) depth index v (noted depth index)) bounds
   walks (suc below) depth index v =
-      ap₂ (λ (x : Enclosure) (s : Subdivision). after (visitWith box budget v x) depth index v (λ w.
+      ap₂ (λ (x : BoundingRect) (s : Subdivision). after (visitWith box budget v x) depth index v (λ w.
       walked box budget below (s .right) (depth + 1) (index * 2 + 1) (walked box budget below (s .left) (depth + 1) (index * 2) w)))
       bounds halves
 

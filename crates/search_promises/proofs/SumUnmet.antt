@@ -8,7 +8,7 @@ use mathlib.Core.Bool.{false}
 use lib.Dec.{eqb}
 use Rattle.curve.specs.declared.Rect.{Rect}
 use Rattle.curve.specs.declared.Curve.{Curve}
-use Rattle.curve.specs.declared.Enclosure.{Enclosure}
+use Rattle.curve.specs.declared.BoundingRect.{BoundingRect}
 use Rattle.curve.specs.declared.Refusal.{Refusal}
 use Rattle.curve.specs.Curve.{withSum, SameButSum, pieceSum, leftOf, rightOf, tableExact}
 use Rattle.curve.specs.Refusals.{none, _orElse_, unless, curveRefusal, Accepted, AcceptedSum}
@@ -67,7 +67,7 @@ module _ (box : Rect) (budget : ℕ) where
       (depth index : ℕ) (v : Verdict) → walked box budget below c depth index v ≡ walked box budget below e depth index v
   unfolding walked visitAt
   walks-same zero c e same ok room room′ depth index v =
-      ap (λ (x : Enclosure). after (visitWith box budget v x) depth index v (noted depth index)) (Curves.past-unread .bounding c e same)
+      ap (λ (x : BoundingRect). after (visitWith box budget v x) depth index v (noted depth index)) (Curves.past-unread .bounding c e same)
   walks-same (suc below) c e same ok room room′ depth index v =
       let ok′ = other-accepted c e same ok in
       let half : (bit i : ℕ) (w : Verdict) → walked box budget below (halfOf bit (subdivided c 1 2)) (depth + 1) i w ≡ walked box budget below (halfOf bit (subdivided e 1 2)) (depth + 1) i w = λ bit i w.
@@ -76,7 +76,7 @@ module _ (box : Rect) (budget : ℕ) where
       walks-same below (halfOf bit (subdivided c 1 2)) (halfOf bit (subdivided e 1 2))
       (halves-same c e same ok (first-room c below ok room) (first-room e below ok′ room′) bit)
       (r .accepted) (half-room c _ below r room) (half-room e _ below r′ room′) (depth + 1) i w in
-      ap₂ (λ (x : Enclosure) (further : Verdict → Verdict). after (visitWith box budget v x) depth index v further) (Curves.past-unread .bounding c e same)
+      ap₂ (λ (x : BoundingRect) (further : Verdict → Verdict). after (visitWith box budget v x) depth index v further) (Curves.past-unread .bounding c e same)
       (fun-ext (λ w.
       half 1 (index * 2 + 1) (walked box budget below (subdivided c 1 2 .left) (depth + 1) (index * 2) w)
       ∙ ap (walked box budget below (subdivided e 1 2 .right) (depth + 1) (index * 2 + 1)) (half 0 (index * 2) w)))

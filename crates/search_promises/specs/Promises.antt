@@ -5,7 +5,7 @@ use mathlib.Core.Bool.{true, false}
 use Prim.Native.Nat.{ℕ, _+_, _-_, _≤_, _<_, _^_}
 use lib.IntN.{ℤ, pos}
 use Rattle.rational.specs.Rounding.{Rounding, down, up}
-use Rattle.rational.specs.Fraction.{Frac, whole, _≤ᶠ_, _<ᶠ_}
+use Rattle.rational.specs.Fraction.{Frac, whole, _≤ᶠ_, _<ᶠ_, parameter}
 use Rattle.curve.specs.declared.Rect.{Rect}
 use Rattle.curve.specs.declared.Curve.{Curve}
 use Rattle.curve.specs.Rect.{Coordinate, side}
@@ -13,7 +13,6 @@ use Rattle.curve.specs.Curve.{withSum, SameButSum, SameCurve}
 use Rattle.curve.specs.Refusals.{none}
 use Rattle.curve.specs.Calls.{bounded, subdivided}
 use Rattle.ledger.specs.Ordinary.{Ordinary, InsideOf, loadAt}
-use Rattle.ledger.specs.Ledger.{parameter}
 use Rattle.search.specs.Limits.{maxBudget}
 use Rattle.search.specs.Verdict.{Report, reported, inside, outside, spent, undecided}
 use Rattle.search.specs.Box.{apartFrom}

@@ -13,7 +13,7 @@ use borrow.Author.Needs.{needs}
 use Rattle.columns.specs.Line.{placed, afterLine}
 use Rattle.columns.proofs.Placed.{placed-front, placed-then}
 use Rattle.curve.specs.declared.Curve.{Curve}
-use Rattle.curve.specs.declared.Enclosure.{Enclosure}
+use Rattle.curve.specs.declared.BoundingRect.{BoundingRect}
 use Rattle.curve.specs.declared.Evaluation.{Evaluation}
 use Rattle.curve.specs.declared.Rect.{Rect}
 use Rattle.curve.specs.declared.Refusal.{Refusal}
@@ -86,7 +86,7 @@ none c = number-passed (unread (readOf c)) (c .if1 .left)
 
 enclosed : (c : tie.After-bounds) → c .bounds .result .rect ≡ bounded (curveIn (c .before)) .rect
 enclosed c =
-    ap (λ (x : Enclosure). x .rect) (c .bounds .ensures ∙ ap (λ (x : CardRead). bounded (x .curve)) (read (readOf (c .before))))
+    ap (λ (x : BoundingRect). x .rect) (c .bounds .ensures ∙ ap (λ (x : CardRead). bounded (x .curve)) (read (readOf (c .before))))
 
 halved : (c : tie.After-evaluate) → c .evaluate .result .load ≡ evaluated (curveIn (c .before .before)) 1 2 .load
 halved c =

@@ -2,10 +2,10 @@
 -- Assumes nothing.
 use mathlib.Core.Path.{refl, ap, _∙_, subst}
 use borrow.Author.Needs.{needs}
-use Rattle.curve.specs.declared.Enclosure.{Enclosure}
+use Rattle.curve.specs.declared.BoundingRect.{BoundingRect}
 use Rattle.curve.specs.Calls.{bounded}
 use Rattle.curve.specs.Rect.{sides}
-use Rattle.foreign.specs.Calls.{GivesEnclosure}
+use Rattle.foreign.specs.Calls.{GivesBounds}
 use Rattle.foreign.proofs.Answer.{has-room, gives}
 use Rattle.foreign.proofs.jusqani_bounds.Statement.{statement}
 use Rattle.foreign.proofs.jusqani_bounds.Tie as tie
@@ -24,7 +24,7 @@ returns c =
     let v = f .before in
     let x = v .bounds .result in
     let out = v .before .before .args .rect .now in
-    subst (λ (e : Enclosure). GivesEnclosure e out (c .answer-of .result) (p .put-rect .last .0)) (v .bounds .ensures ∙ ap bounded (v .before .curve-from .ensures))
+    subst (λ (e : BoundingRect). GivesBounds e out (c .answer-of .result) (p .put-rect .last .0)) (v .bounds .ensures ∙ ap bounded (v .before .curve-from .ensures))
     (gives (x .refusal) (sides (x .rect)) out refl (f .with-room .ensures) (c .answer-of .ensures) (p .put-rect .ensures))
 
 pub jusqani-bounds-spec : {M : Type 1} → statement M

@@ -6,7 +6,7 @@ use native.Mathlib.Omega.{arith}
 use borrow.Author.Needs.{needs}
 use borrow.Fn.Kinds.{In}
 use borrow.Fn.PlainCycle.{Measures, is, falls, and}
-use Rattle.curve.specs.declared.Enclosure.{Enclosure}
+use Rattle.curve.specs.declared.BoundingRect.{BoundingRect}
 use Rattle.curve.specs.Calls.{bounded}
 use Rattle.search.specs.Box.{inBox, apartFrom}
 use Rattle.search.proofs.Visits.{Crossing}
@@ -48,10 +48,10 @@ callees t = (
 module _ (t : ℕ) where
   -- how the span lies to the box, as the calls tell it
   span-in : (c : lts.After-in-box (callees t) (at t) inside-count.Post) → let a = c .before .before .before .before .args in c .in-box .result ≡ inBox (bounded (a .piece) .rect) (a .limits)
-  span-in c = let a = c .before .before .before .before .args in c .in-box .ensures ∙ ap (λ (e : Enclosure). inBox (e .rect) (a .limits)) (c .before .before .bounds .ensures)
+  span-in c = let a = c .before .before .before .before .args in c .in-box .ensures ∙ ap (λ (e : BoundingRect). inBox (e .rect) (a .limits)) (c .before .before .bounds .ensures)
 
   span-apart : (c : lts.After-apart-from (callees t) (at t) inside-count.Post) → let a = c .before .before .before .before .before .before .args in c .apart-from .result ≡ apartFrom (bounded (a .piece) .rect) (a .limits)
-  span-apart c = let a = c .before .before .before .before .before .before .args in c .apart-from .ensures ∙ ap (λ (e : Enclosure). apartFrom (e .rect) (a .limits)) (c .before .before .before .before .bounds .ensures)
+  span-apart c = let a = c .before .before .before .before .before .before .args in c .apart-from .ensures ∙ ap (λ (e : BoundingRect). apartFrom (e .rect) (a .limits)) (c .before .before .before .before .bounds .ensures)
 
   -- past the first three tests the span lies across the box's edge
   crossing : (c : lts.Else3 (callees t) (at t) inside-count.Post) → let a = c .before .before .before .before .before .before .before .args in Crossing (a .limits) (a .piece)

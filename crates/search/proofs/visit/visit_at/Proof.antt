@@ -5,7 +5,7 @@ use mathlib.Core.Bool.{true, false}
 use borrow.Author.Needs.{needs}
 use borrow.Author.Tests.{eq-eqb, ne-eqb, not-true, not-false}
 use lib.Dec.{eqb}
-use Rattle.curve.specs.declared.Enclosure.{Enclosure}
+use Rattle.curve.specs.declared.BoundingRect.{BoundingRect}
 use Rattle.curve.specs.Calls.{bounded}
 use Rattle.search.specs.Box.{inBox, apartFrom}
 use Rattle.search.specs.Walk.{goesOn, countOf, visitAt}
@@ -45,12 +45,12 @@ bounds-requires c κs = search needs
 span-in : (c : tie.After-in-box) → let a = c .before .before .before .before .before .before .before .args in c .in-box .result ≡ inBox (bounded (a .piece) .rect) (a .limits)
 span-in c =
     let a = c .before .before .before .before .before .before .before .args in
-    c .in-box .ensures ∙ ap (λ (e : Enclosure). inBox (e .rect) (a .limits)) (c .before .before .bounds .ensures)
+    c .in-box .ensures ∙ ap (λ (e : BoundingRect). inBox (e .rect) (a .limits)) (c .before .before .bounds .ensures)
 
 span-apart : (c : tie.After-apart-from) → let a = c .before .before .before .before .before .before .before .before .before .args in c .apart-from .result ≡ apartFrom (bounded (a .piece) .rect) (a .limits)
 span-apart c =
     let a = c .before .before .before .before .before .before .before .before .before .args in
-    c .apart-from .ensures ∙ ap (λ (e : Enclosure). apartFrom (e .rect) (a .limits)) (c .before .before .before .before .bounds .ensures)
+    c .apart-from .ensures ∙ ap (λ (e : BoundingRect). apartFrom (e .rect) (a .limits)) (c .before .before .before .before .bounds .ensures)
 
 in-box-requires : tie.Need-in-box-requires
 in-box-requires c κs = search needs

@@ -3,7 +3,7 @@
 use mathlib.Core.Path.{ap, ap₂, _∙_}
 use mathlib.Core.Bool.{false}
 use borrow.Author.Needs.{needs}
-use Rattle.curve.specs.declared.Enclosure.{Enclosure}
+use Rattle.curve.specs.declared.BoundingRect.{BoundingRect}
 use Rattle.curve.specs.declared.Rect.{Rect}
 use Rattle.curve.specs.declared.Refusal.{Refusal}
 use Rattle.curve.specs.Refusals.{_orElse_}
@@ -19,8 +19,8 @@ returns c =
     let list = first .before in
     let span = list .before in
     c .started-unless .ensures
-    ∙ ap₂ (λ (p : Rect) (r : Refusal). startedUnless p false r) (ap (λ (e : Enclosure). e .rect) (span .bounds .ensures))
-    (first .first-of .ensures ∙ ap₂ _orElse_ (list .list-refusal .ensures) (ap (λ (e : Enclosure). e .refusal) (span .bounds .ensures) ∙ bounded-refusal (span .before .args .c)))
+    ∙ ap₂ (λ (p : Rect) (r : Refusal). startedUnless p false r) (ap (λ (e : BoundingRect). e .rect) (span .bounds .ensures))
+    (first .first-of .ensures ∙ ap₂ _orElse_ (list .list-refusal .ensures) (ap (λ (e : BoundingRect). e .refusal) (span .bounds .ensures) ∙ bounded-refusal (span .before .args .c)))
 
 pub begun-spec : {M : Type 1} → statement M
 begun-spec = tie.close (tie.spec (λ c κs. search needs) (λ c κs. search needs) (λ c κs. search needs) (λ c κs. search needs) returns)
