@@ -70,7 +70,7 @@ up_to_date() (
     cd "$root" && [ -e "$file" ] && [ -e "$built" ] && newer=$(find "$@" -newer "$built" -print -quit 2> /dev/null) && [ -z "$newer" ]
 )
 
-# run_group COMMAND..: runs a command in a process group of its own, and waits for it. What it writes goes to standard error as it comes.
+# run_group COMMAND..: runs a command in a process group of its own, and waits for it.
 run_group() {
     local ended=0
     set -m
@@ -80,10 +80,21 @@ run_group() {
     return "$ended"
 }
 
-# The lock is not lent to the command, which may leave processes behind.
+# keep_log FILE: keeps what comes, and shows rt's own lines as they come, one for each crate.
+keep_log() {
+    local line
+    trap '' PIPE
+    while IFS= read -r line; do
+        printf '%s\n' "$line"
+        [[ $line != rt:* ]] || printf '%s\n' "$line" >&2 || true
+    done > "$1"
+}
+
+# in_repository LOG COMMAND..: the lock is not lent to the command, which may leave processes behind.
 in_repository() {
     exec 9<&-
-    cd "$root" && "$@"
+    set -o pipefail
+    cd "$root" && "${@:2}" 2>&1 | keep_log "$1"
 }
 
 # interrupted SIGNAL: ends the process group that runs, then the script, by the same signal. A command in the background, as rt has
@@ -105,13 +116,16 @@ interrupted() {
 
 # Another run may have built the file while this one waited for the lock. The lock is on crates.txt, which rt ci leaves alone.
 build_under_lock() {
-    local name=$1 file=$2 sources=$3 building=$root/target/$1.building built=$root/target/$1.built
+    local name=$1 file=$2 sources=$3 building=$root/target/$1.building built=$root/target/$1.built log=$root/target/$1.log
     shift 3
     exec 9< "$root/crates.txt" && run_group flock 9 || return
     # shellcheck disable=SC2086
     up_to_date "$name" "$file" $sources && return
     mkdir -p "$root/target" && rm -f "$built" && touch "$building" || return
-    run_group in_repository "$@" || return
+    run_group in_repository "$log" "$@" || {
+        cat "$log" >&2
+        return 1
+    }
     mv "$building" "$built"
 }
 
