@@ -1,23 +1,19 @@
 -- A side moved outward by a spread rounded up to steps bounds every value within the spread.
 -- Assumes nothing.
-use mathlib.Core.Path.{_≡_, sym, ap, ap₂, _∙_, subst, subst₂}
+use mathlib.Core.Path.{_≡_, sym, ap, ap₂, _∙_, subst}
 use lib.IntN.{ℤ, _+ℤ_, _-ℤ_, -ℤ-+ℤ-cancel}
 use Rattle.rational.specs.Rounding.{Rounding, down, up}
 use Rattle.rational.specs.Fraction.{Frac, whole, _≤ᶠ_, _+ᶠ_}
-use Rattle.rational.proofs.Rational.{ℚ, rat, embed, negℚ, _+ℚ_, rat-add, rat-whole, embed-add, +ℚ-cancel}
-use Rattle.rational.proofs.RationalOrder.{_≤ℚ_, ≤ℚ-of, ≤ᶠ-of, ≤ℚ-trans, +ℚ-mono, +ℚ-mono-left, +ℚ-mono-right}
+use Rattle.rational.proofs.Rational.{ℚ, rat, embed, _+ℚ_, rat-add, rat-whole, embed-add}
+use Rattle.rational.proofs.RationalOrder.{_≤ℚ_, ≤ℚ-of, ≤ᶠ-of, ≤ℚ-trans, +ℚ-mono, +ℚ-mono-left, +ℚ-order-cancel}
 use Rattle.curve.specs.Rect.{Bounded}
 use Rattle.bridge.specs.Bridge.{moved}
-
--- what is added on both sides may be left out
-cancelled : {x y : ℚ} (z : ℚ) → x +ℚ z ≤ℚ y +ℚ z → x ≤ℚ y
-cancelled {x} {y} z h = subst₂ _≤ℚ_ (+ℚ-cancel x z) (+ℚ-cancel y z) (+ℚ-mono-right (negℚ z) h)
 
 module _ (a k : ℤ) (value spread v : Frac) (most : spread ≤ᶠ whole k) where
   lower : whole a ≤ᶠ value → value ≤ᶠ v +ᶠ spread → whole (a -ℤ k) ≤ᶠ v
   lower h near =
       ≤ᶠ-of (whole (a -ℤ k)) v
-      (cancelled (rat (whole k))
+      (+ℚ-order-cancel (rat (whole k))
       (subst (λ x. x ≤ℚ rat v +ℚ rat (whole k)) (sym together)
       (≤ℚ-trans (≤ℚ-of h) (≤ℚ-trans (subst (λ x. rat value ≤ℚ x) (rat-add v spread) (≤ℚ-of near)) (+ℚ-mono-left (rat v) (≤ℚ-of most))))))
     where

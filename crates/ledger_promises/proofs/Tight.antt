@@ -1,52 +1,24 @@
 -- Where the rounded value at the end of de Casteljau's table is the exact one, no map on the way left a remainder, if both factors are above 0:
 -- roundings all go one way, and points in order with equal means are equal. Over any degree, any divisor and either rounding.
 -- Assumes nothing.
-use mathlib.Core.Path.{_≡_, refl, sym, ap, ap₂, _∙_, subst, subst₂}
+use mathlib.Core.Path.{_≡_, sym, ap, ap₂, _∙_, subst, subst₂}
 use mathlib.Core.Bool.{true}
-use mathlib.Core.HLevel.{→-prop}
-use Prim.Native.Nat.{ℕ, zero, suc, _+_, _-_, _*_, _≤_, _<_}
-use native.Mathlib.Nat.{zero-mul, mul-zero}
-use native.Mathlib.Decide.{decLt}
+use Prim.Native.Nat.{ℕ, zero, suc, _+_, _-_, _≤_, _<_}
+use native.Mathlib.Nat.{mul-zero}
 use native.Mathlib.Omega.{arith}
 use lib.IntN.{ℤ, pos, _+ℤ_, _*ℤ_}
 use Rattle.rational.specs.Rounding.{Rounding, down, up, divisible}
-use Rattle.rational.proofs.Order.{≤ℤ-antisymm, pos-mono}
-use Rattle.rational.proofs.Rational.{ℚ, ℚ-set, embed, negℚ, _+ℚ_, _*ℚ_, rat-equal, by-fractions₂, +ℚ-comm, +ℚ-cancel, *ℚ-assoc, *ℚ-comm, one-*ℚ}
-use Rattle.rational.proofs.RationalOrder.{_≤ℚ_, ≤ᶠ-of, ≤ℚ-refl, ≤ℚ-trans, +ℚ-mono-left, +ℚ-mono-right, *ℚ-mono-left, *ℚ-nonneg, embed-mono}
-use Rattle.rational.proofs.Division.{ratio, ratio-mul, ratio-nonneg, ratio-embed, ratio-affine}
+use Rattle.rational.proofs.Rational.{ℚ, embed, _+ℚ_, _*ℚ_, +ℚ-comm}
+use Rattle.rational.proofs.RationalOrder.{_≤ℚ_, ≤ℚ-trans, ≤ℚ-antisymm, +ℚ-mono-left, +ℚ-mono-right, +ℚ-order-cancel, *ℚ-mono-left}
+use Rattle.rational.proofs.Division.{ratio, ratio-nonneg, ratio-embed, ratio-affine, ratio-order-cancel}
 use Rattle.rational.proofs.Divisible.{multiple-divisible}
 use Rattle.bernstein.specs.Affine.{affine, affineExact}
 use Rattle.bernstein.specs.DeCasteljau.{table}
 use Rattle.bernstein.proofs.Exact.{mix}
 use Rattle.bernstein.proofs.Rationals.{mean}
-use Rattle.bernstein.proofs.Convex.{excess-order, order-excess}
-use Rattle.bernstein.proofs.Rounded.{Near, error, mean-excess, affine-near, table-near}
-use Rattle.bernstein.proofs.Table.{table-suc}
+use Rattle.bernstein.proofs.Convex.{excess-order}
+use Rattle.bernstein.proofs.Rounded.{Near, affine-near, table-near}
 use Rattle.ledger.proofs.Evaluation.{inward, inward-none, near-itself}
-
-≤ℚ-antisymm : {x y : ℚ} → x ≤ℚ y → y ≤ℚ x → x ≡ y
-≤ℚ-antisymm {x} {y} =
-    by-fractions₂ (λ x y. x ≤ℚ y → y ≤ℚ x → x ≡ y) (λ x y. →-prop (→-prop (ℚ-set x y)))
-    (λ a b h k. rat-equal a b (≤ℤ-antisymm (≤ᶠ-of a b h .crosswise) (≤ᶠ-of b a k .crosswise))) x y
-
-≤ℚ-reflexive : {x y : ℚ} → x ≡ y → x ≤ℚ y
-≤ℚ-reflexive {x} h = subst (λ y. x ≤ℚ y) h (≤ℚ-refl x)
-
--- what is added on both sides may be left out
-plus-cancel : {x y : ℚ} (z : ℚ) → x +ℚ z ≤ℚ y +ℚ z → x ≤ℚ y
-plus-cancel {x} {y} z h = subst₂ _≤ℚ_ (+ℚ-cancel x z) (+ℚ-cancel y z) (+ℚ-mono-right (negℚ z) h)
-
--- a factor above 0 may be left out
-times-cancel : (s d : ℕ) (above : 0 < s) (positive : 0 < d) {x y : ℚ} → ratio d positive (pos s) *ℚ x ≤ℚ ratio d positive (pos s) *ℚ y → x ≤ℚ y
-times-cancel s d above positive {x} {y} h =
-    let back : ℚ = ratio s above (pos 1) *ℚ embed (pos d) in
-    let unit : back *ℚ ratio d positive (pos s) ≡ embed (pos 1) =
-    *ℚ-assoc (ratio s above (pos 1)) (embed (pos d)) (ratio d positive (pos s))
-    ∙ ap (λ z. ratio s above (pos 1) *ℚ z) (*ℚ-comm (embed (pos d)) (ratio d positive (pos s)) ∙ ratio-mul d positive (pos s))
-    ∙ ratio-mul s above (pos 1)
-    in
-    let undo : (z : ℚ) → back *ℚ (ratio d positive (pos s) *ℚ z) ≡ z = λ z. sym (*ℚ-assoc back (ratio d positive (pos s)) z) ∙ ap (λ u. u *ℚ z) unit ∙ one-*ℚ z in
-    subst₂ _≤ℚ_ (undo x) (undo y) (*ℚ-mono-left (*ℚ-nonneg (ratio-nonneg s above 1) (embed-mono (pos-mono (omega arith)))) h)
 
 -- a map whose rounded value is the exact mean leaves no remainder
 pub exact-of :
@@ -64,12 +36,12 @@ module _ (s t d : ℕ) (whole-weight : s + t ≡ d) (positive : 0 < d) (first : 
   mean-equal {x} {y} {x′} {y′} p q h =
       let S = ratio d positive (pos s) in
       let T = ratio d positive (pos t) in
-      let back-first : S *ℚ x′ ≤ℚ S *ℚ x = plus-cancel (T *ℚ y′) (≤ℚ-trans h (+ℚ-mono-left (S *ℚ x) (*ℚ-mono-left (ratio-nonneg d positive t) q))) in
+      let back-first : S *ℚ x′ ≤ℚ S *ℚ x = +ℚ-order-cancel (T *ℚ y′) (≤ℚ-trans h (+ℚ-mono-left (S *ℚ x) (*ℚ-mono-left (ratio-nonneg d positive t) q))) in
       let back-second : T *ℚ y′ ≤ℚ T *ℚ y =
-      plus-cancel (S *ℚ x′)
+      +ℚ-order-cancel (S *ℚ x′)
       (subst₂ _≤ℚ_ (+ℚ-comm (S *ℚ x′) (T *ℚ y′)) (+ℚ-comm (S *ℚ x′) (T *ℚ y)) (≤ℚ-trans h (+ℚ-mono-right (T *ℚ y) (*ℚ-mono-left (ratio-nonneg d positive s) p))))
       in
-      (≤ℚ-antisymm p (times-cancel s d first positive back-first), ≤ℚ-antisymm q (times-cancel t d second positive back-second))
+      (≤ℚ-antisymm p (ratio-order-cancel s d first positive back-first), ≤ℚ-antisymm q (ratio-order-cancel t d second positive back-second))
 
   -- points that the rounded ones are not short of, and whose exact mean is the rounded mean, are the rounded ones
   points-same :

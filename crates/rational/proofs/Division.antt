@@ -11,8 +11,8 @@ use Rattle.rational.specs.Fraction.{Frac, _*ᶠ_, _^ᶠ_, whole}
 use Rattle.rational.proofs.Whole.{mul-assoc, one-mul}
 use Rattle.rational.proofs.Order.{pos-mono, *ℤ-mono, ≤ℤ-antisymm}
 use Rattle.rational.proofs.Quotient.{above, below, quotient-upper, quotient-lower, quotient-greatest, quotient-least}
-use Rattle.rational.proofs.Rational.{rational-ring, ℚ, rat, rat-equal, rat-mul, _+ℚ_, _*ℚ_, embed, embed-add, embed-mul, *ℚ-one, *ℚ-comm, *ℚ-assoc, *ℚ-distrib-right}
-use Rattle.rational.proofs.RationalOrder.{_≤ℚ_, ≤ℚ-of, ≤ℚ-refl, *ℚ-nonneg, *ℚ-mono-right, embed-mono, embed-reflects}
+use Rattle.rational.proofs.Rational.{rational-ring, ℚ, rat, rat-equal, rat-mul, _+ℚ_, _*ℚ_, embed, embed-add, embed-mul, *ℚ-one, one-*ℚ, *ℚ-comm, *ℚ-assoc, *ℚ-distrib-right}
+use Rattle.rational.proofs.RationalOrder.{_≤ℚ_, ≤ℚ-of, ≤ℚ-refl, *ℚ-nonneg, *ℚ-mono-right, *ℚ-mono-left, embed-mono, embed-reflects}
 
 module _ (d : ℕ) (positive : 0 < d) where
   -- z / d
@@ -102,6 +102,18 @@ module _ (d : ℕ) (positive : 0 < d) where
   ratio-affine s t a b = ratio-add (s *ℤ a) (t *ℤ b) ∙ ap₂ (λ x y. x +ℚ y) (ratio-scale s a) (ratio-scale t b)
 
 -- a fraction is its upper number over its lower
+-- a factor s / d above 0 may be left out on both sides
+pub ratio-order-cancel : (s d : ℕ) (above : 0 < s) (positive : 0 < d) {x y : ℚ} → ratio d positive (pos s) *ℚ x ≤ℚ ratio d positive (pos s) *ℚ y → x ≤ℚ y
+ratio-order-cancel s d above positive {x} {y} h =
+    let back : ℚ = ratio s above (pos 1) *ℚ embed (pos d) in
+    let unit : back *ℚ ratio d positive (pos s) ≡ embed (pos 1) =
+    *ℚ-assoc (ratio s above (pos 1)) (embed (pos d)) (ratio d positive (pos s))
+    ∙ ap (λ z. ratio s above (pos 1) *ℚ z) (*ℚ-comm (embed (pos d)) (ratio d positive (pos s)) ∙ ratio-mul d positive (pos s))
+    ∙ ratio-mul s above (pos 1)
+    in
+    let undo : (z : ℚ) → back *ℚ (ratio d positive (pos s) *ℚ z) ≡ z = λ z. sym (*ℚ-assoc back (ratio d positive (pos s)) z) ∙ ap (λ u. u *ℚ z) unit ∙ one-*ℚ z in
+    subst₂ _≤ℚ_ (undo x) (undo y) (*ℚ-mono-left (*ℚ-nonneg (ratio-nonneg s above 1) (embed-mono (pos-mono (omega arith)))) h)
+
 pub rat-ratio : (a : Frac) → rat a ≡ ratio (a .lower) (a .positive) (a .upper)
 unfolding ratio
 rat-ratio a = refl

@@ -12,7 +12,7 @@ use lib.Signed.{_≤ℤ_, ≤ℤ-refl, leZ, leZ-yes}
 use Rattle.rational.specs.Fraction.{Frac, Equal, _≤ᶠ_, _+ᶠ_, _*ᶠ_, whole}
 use Rattle.rational.proofs.Whole.{integer-ring, mul-one}
 use Rattle.rational.proofs.Order.{≤ℤ-certificate, ≤ℤ-antisymm, ≤ℤ-trans, ≤ℤ-reflexive, *ℤ-mono, *ℤ-mono-nonneg, *ℤ-cancel}
-use Rattle.rational.proofs.Rational.{ℚ, rat, fractions, by-fractions, by-fractions₃, rat-add, rat-mul, _+ℚ_, _*ℚ_, embed, +ℚ-comm, *ℚ-comm, zero-*ℚ}
+use Rattle.rational.proofs.Rational.{ℚ, ℚ-set, rat, rat-equal, fractions, by-fractions, by-fractions₂, by-fractions₃, rat-add, rat-mul, negℚ, _+ℚ_, _*ℚ_, embed, +ℚ-comm, +ℚ-cancel, *ℚ-comm, zero-*ℚ}
 
 pub keeps : (a b a′ b′ : Frac) → Equal a a′ → Equal b b′ → a ≤ᶠ b → a′ ≤ᶠ b′
 keeps a b a′ b′ h k l = record {
@@ -96,6 +96,11 @@ pub ≤ℚ-trans : {x y z : ℚ} → x ≤ℚ y → y ≤ℚ z → x ≤ℚ z
     chain a b c h k = subst₂ (λ x y. x ≤ℤ y) (swap (a .upper) (pos (b .lower)) (pos (c .lower))) (swap (c .upper) (pos (b .lower)) (pos (a .lower)))
         (≤ℤ-trans (*ℤ-mono (c .lower) (h .crosswise)) (≤ℤ-trans (≤ℤ-reflexive (swap (b .upper) (pos (a .lower)) (pos (c .lower)))) (*ℤ-mono (a .lower) (k .crosswise))))
 
+pub ≤ℚ-antisymm : {x y : ℚ} → x ≤ℚ y → y ≤ℚ x → x ≡ y
+≤ℚ-antisymm {x} {y} =
+    by-fractions₂ (λ x y. x ≤ℚ y → y ≤ℚ x → x ≡ y) (λ x y. →-prop (→-prop (ℚ-set x y)))
+    (λ a b h k. rat-equal a b (≤ℤ-antisymm (≤ᶠ-of a b h .crosswise) (≤ᶠ-of b a k .crosswise))) x y
+
 -- ---- sums and products
 
 pub +ℚ-mono-right : {x y : ℚ} (z : ℚ) → x ≤ℚ y → x +ℚ z ≤ℚ y +ℚ z
@@ -108,6 +113,10 @@ unfolding _+ᶠ_
 
     add : (a b c : Frac) → a ≤ᶠ b → a +ᶠ c ≤ᶠ b +ᶠ c
     add a b c h = record { crosswise = ≤ℤ-certificate (*ℤ-mono (c .lower * c .lower) (h .crosswise)) (ring (a .upper) (b .upper) (c .upper) (pos (a .lower)) (pos (b .lower)) (pos (c .lower))) }
+
+-- what is added on both sides may be left out
+pub +ℚ-order-cancel : {x y : ℚ} (z : ℚ) → x +ℚ z ≤ℚ y +ℚ z → x ≤ℚ y
++ℚ-order-cancel {x} {y} z h = subst₂ _≤ℚ_ (+ℚ-cancel x z) (+ℚ-cancel y z) (+ℚ-mono-right (negℚ z) h)
 
 pub +ℚ-mono-left : {x y : ℚ} (z : ℚ) → x ≤ℚ y → z +ℚ x ≤ℚ z +ℚ y
 +ℚ-mono-left {x} {y} z h = subst₂ (λ a b. a ≤ℚ b) (+ℚ-comm x z) (+ℚ-comm y z) (+ℚ-mono-right z h)
