@@ -4,8 +4,8 @@
 use crate::calls::{Listed, CURVE_SIDES};
 use crate::{plain_settings, sums, SEED};
 use jusqani::{Curve, Interval, Rect, Setting, Verdict, MAX_DEGREE, MAX_SETTINGS, RECT_LENGTH};
+use second::ask::Given;
 use second::draw;
-use second::given::Given;
 use second::rng::Rng;
 
 /// What every walk is given.
@@ -102,8 +102,8 @@ fn limits(rng: &mut Rng, kind: Kind, curve: &Curve, is_last: bool) -> Option<Rec
 
 /// An accepted curve whose sides are at most half as far out as they may be, so that there is room beside it.
 fn curve(rng: &mut Rng) -> Curve {
-    let given = Given::exact(&draw::curve(rng, MAX_DEGREE as usize));
-    curve_of(&std::array::from_fn(|side| given.sides()[side] / 2))
+    let given = Given::of(&draw::curve(rng, MAX_DEGREE as usize));
+    curve_of(&std::array::from_fn(|side| given.sides[side] / 2))
 }
 
 fn curve_of(sides: &[i32; CURVE_SIDES]) -> Curve {

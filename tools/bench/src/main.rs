@@ -18,8 +18,8 @@ use calls::{
 };
 use jusqani::{MAX_DEGREE, MAX_DEN, MAX_SETTINGS};
 use lists::{lists, pieces, Kind, BUDGET, DEPTH};
+use second::ask::Given;
 use second::draw::curve;
-use second::given::Given;
 use second::rng::Rng;
 use std::hint::black_box;
 use std::ops::RangeInclusive;
@@ -144,11 +144,11 @@ fn sums(more: u32) -> impl Iterator<Item = u16> {
 
 /// An accepted curve with this sum and an accepted parameter.
 fn input(rng: &mut Rng, sum: u16, dens: &RangeInclusive<i64>) -> Input {
-    let given = Given::exact(&curve(rng, MAX_DEGREE as usize));
+    let given = Given::of(&curve(rng, MAX_DEGREE as usize));
     let den = rng.between(*dens.start(), *dens.end());
     Input {
         sum,
-        sides: std::array::from_fn::<i32, CURVE_SIDES, _>(|side| given.sides()[side]),
+        sides: std::array::from_fn::<i32, CURVE_SIDES, _>(|side| given.sides[side]),
         num: rng.between(0, den) as u32,
         den: den as u32,
     }
@@ -159,7 +159,7 @@ fn at_sixteenths(rng: &mut Rng, degree: u32) -> Vec<AtSixteenth> {
     let places = (0..SIXTEENTH_PLACES as u32).cycle();
     let drawn = places.map(|j| AtSixteenth {
         degree,
-        sides: Given::exact(&curve(rng, degree as usize)).sides().to_vec(),
+        sides: Given::of(&curve(rng, degree as usize)).sides,
         j,
     });
     drawn.take(SIXTEENTH_PLACES * SIXTEENTH_CURVES).collect()

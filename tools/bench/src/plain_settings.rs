@@ -150,8 +150,8 @@ pub fn choose_setting(
 mod tests {
     use super::*;
     use jusqani::raw;
-    use second::draw::{curve, given_of};
-    use second::given::Given;
+    use second::ask::Given;
+    use second::draw;
     use second::rng::Rng;
 
     type Choose = fn(u32, u16, &[i32], &[Setting], u32, u32, &mut [u32]) -> u64;
@@ -166,8 +166,8 @@ mod tests {
         let mut rng = Rng::new(10);
         let (mut fits, mut none, mut refused, mut summed) = (0, 0, 0, 0);
         for k in 0..12_000 {
-            let drawn = curve(&mut rng, 1 + k % MAX_DEGREE as usize);
-            let given = given_of(&mut rng, drawn);
+            let drawn = draw::curve(&mut rng, 1 + k % MAX_DEGREE as usize);
+            let given = draw::given(&mut rng, drawn);
             let settings = settings(&mut rng, &given);
             let depth = rng.pick(&[0, 1, 3, 5, 6, 13]);
             let budget = rng.pick(&[0, 1, 3, 9, 500, 500, 8_191, 8_192]);
@@ -175,13 +175,13 @@ mod tests {
             let sum = rng.pick(&SUMS);
             let [ours, plain] = [raw::choose_setting as Choose, choose_setting].map(|call| {
                 let mut choice = [7; CHOICE_LENGTH + 1];
-                let (sides, room) = (given.sides(), &mut choice[..room]);
+                let (sides, room) = (&given.sides, &mut choice[..room]);
                 let answer = call(given.degree, sum, sides, &settings, depth, budget, room);
                 (answer, choice)
             });
             assert_eq!(
                 ours, plain,
-                "{given}, sum {sum}, {settings:?}, {depth}, {budget}"
+                "{given:?}, sum {sum}, {settings:?}, {depth}, {budget}"
             );
             refused += usize::from(ours.0 != 0);
             summed += usize::from(ours.0 == 17);
@@ -196,7 +196,7 @@ mod tests {
     /// is refused, and one box in 64 is no box.
     fn settings(rng: &mut Rng, given: &Given) -> Vec<Setting> {
         let mut bounds = [-5, 5, -5, 5];
-        raw::bounds(given.degree, given.sides(), &mut bounds);
+        raw::bounds(given.degree, &given.sides, &mut bounds);
         let count = rng.pick(&[1, 1, 2, 2, 3, 3, 5, 5, 8, 8, 33, 33, 63, 64, 0, 65]);
         let setting = |_| Setting {
             limits: limits(rng, bounds).into(),

@@ -116,10 +116,10 @@ pub fn evaluate_sixteenths(
 mod tests {
     use super::*;
     use jusqani::raw;
-    use second::draw::{curve, given_of, REFUSED_SIXTEENTHS};
-    use second::given::Given;
+    use second::ask::{Ask, Given};
+    use second::corners::FAR_SIXTEENTHS;
+    use second::draw;
     use second::rng::Rng;
-    use second::sums::curve_exact_at;
 
     type Evaluate = fn(u32, &[i32], u32, &mut [i32], &mut [f32], &mut u32) -> u64;
 
@@ -129,18 +129,15 @@ mod tests {
     fn answers_as_ours_does() {
         let mut rng = Rng::new(9);
         let (mut exact, mut refused) = (0, 0);
-        for k in 0..4_000 {
-            let degree = 1 + k % MAX_DEGREE as usize;
-            let given = match k % 3 {
-                0 => curve_exact_at(&mut rng, degree, 1 + (k % 15) as u32),
-                _ => curve(&mut rng, degree),
+        for _ in 0..4_000 {
+            let Ask::EvaluateSixteenths { curve, .. } = draw::evaluate_sixteenths(&mut rng) else {
+                unreachable!("another call is drawn");
             };
-            let given = given_of(&mut rng, given);
-            for j in (0..=SIXTEENTHS).chain(REFUSED_SIXTEENTHS) {
+            for j in (0..=SIXTEENTHS).chain(FAR_SIXTEENTHS) {
                 let rooms = [(5, 5), (rng.up_to(5), rng.up_to(5))];
                 for (room, ohms_room) in rooms {
-                    let [ours, plain] = both(&given, j, room, ohms_room);
-                    assert_eq!(ours, plain, "{given}, at {j}/16, room {room} {ohms_room}");
+                    let [ours, plain] = both(&curve, j, room, ohms_room);
+                    assert_eq!(ours, plain, "{curve:?}, at {j}/16, room {room} {ohms_room}");
                     exact += usize::from(ours.3 == 1);
                     refused += usize::from(ours.0 != 0);
                 }
@@ -156,7 +153,7 @@ mod tests {
         [raw::evaluate_sixteenths as Evaluate, evaluate_sixteenths].map(|call| {
             let (mut load, mut ohms, mut exact) = ([7; 5], [7.0; 5], 7);
             let (to, display) = (&mut load[..room], &mut ohms[..ohms_room]);
-            let answer = call(given.degree, given.sides(), j, to, display, &mut exact);
+            let answer = call(given.degree, &given.sides, j, to, display, &mut exact);
             (answer, load, ohms.map(f32::to_bits), exact)
         })
     }

@@ -44,13 +44,7 @@ pub fn number_of(column: &[u8]) -> Option<i64> {
     })
 }
 
-/// One line of columns.
-pub fn line_of(numbers: &[i64]) -> Vec<u8> {
-    let mut line = Vec::with_capacity(COLUMN * numbers.len() + 1);
-    write_line(numbers, &mut line);
-    line
-}
-
+/// Writes one line of columns.
 fn write_line(numbers: &[i64], text: &mut Vec<u8>) {
     for number in numbers {
         text.extend(column_of(*number));
@@ -86,12 +80,6 @@ fn numbers_at<const N: usize>(bytes: &[u8], offset: usize) -> Result<[i64; N], R
     Ok(numbers)
 }
 
-/// The numbers of the line that some bytes begin with, where they do.
-pub fn numbers_in<const N: usize>(bytes: &[u8]) -> Option<[i64; N]> {
-    let line = bytes.get(..COLUMN * N + 1)?;
-    numbers_at(line, 0).ok()
-}
-
 /// The degree in the first line: refusals 10 (short), 11 and 1.
 pub fn degree_of(card: &[u8]) -> Result<usize, Refusal> {
     refuse_if(card.len() < FIRST_LINE, 10, card.len())?;
@@ -115,7 +103,14 @@ pub fn curve_of(card: &[u8]) -> Result<Curve, Refusal> {
 #[cfg(test)]
 mod tests {
     use super::*;
-    use crate::programs::examples::CARD;
+    use crate::draw;
+    use crate::rng::Rng;
+
+    /// Document 01's example.
+    const CARD: &[u8] = b"         1
+         0         1        -3        -3
+         1         3         0         2
+";
 
     fn refused(card: &[u8]) -> (u32, usize) {
         let refusal = curve_of(card).unwrap_err();
@@ -135,75 +130,28 @@ mod tests {
         assert_eq!(curve, Curve::new(&[[0, 1, -3, -3], [1, 3, 0, 2]]));
         assert_eq!(card_of(&curve), CARD);
         assert_eq!(card_of(&curve.with_sum(9)), CARD);
+        for (degree, rng) in (1..=MAX_DEGREE).zip(&mut [(); MAX_DEGREE].map(|()| Rng::new(1))) {
+            let drawn = draw::curve(rng, degree);
+            assert_eq!(curve_of(&card_of(&drawn)), Ok(drawn));
+        }
         assert_eq!((card_length(1), card_length(8)), (93, 380));
     }
 
     #[test]
-    fn knows_a_column() {
-        let sound = [
-            "         0",
-            "        -1",
-            "9999999999",
-            "-999999999",
-            " 123456789",
-        ];
-        for text in sound {
-            assert_eq!(
-                number_of(text.as_bytes()),
-                text.trim().parse().ok(),
-                "{text}"
-            );
-        }
-        let malformed = [
-            "          ",
-            "        +1",
-            "        01",
-            "        -0",
-            "       - 1",
-            "1         ",
-            "      1 2 ",
-            "         -",
-            "       --1",
-            "0000000000",
-            "        1.",
-            "\t        1",
-            "         a",
-            "       -01",
-        ];
-        for text in malformed {
-            assert_eq!(number_of(text.as_bytes()), None, "{text}");
-        }
-        assert_eq!(number_of(&[0xff; 10]), None);
-    }
-
-    #[test]
-    fn refuses_the_first_line_before_the_length() {
-        assert_eq!(refused(b""), (10, 0));
+    fn refuses_in_the_order_of_the_paper() {
         assert_eq!(refused(b"x         "), (10, 10));
-        assert_eq!(refused(b"         x\n"), (11, 0));
         assert_eq!(refused(b"         9x"), (11, 10));
         assert_eq!(refused(b"         9\n"), (1, 0));
         assert_eq!(refused(b"9999999999\n"), (1, 0));
-        assert_eq!(refused(b"        -1\n"), (1, 0));
         assert_eq!(refused(b"         1\n"), (10, 11));
         assert_eq!(refused(&[CARD, b"\n"].concat()), (10, 94));
-    }
-
-    #[test]
-    fn refuses_the_other_lines_in_byte_order() {
-        assert_eq!(refused(&changed(31, "x")), (11, 31));
         assert_eq!(refused(&changed(40, "x")), (11, 31));
+        assert_eq!(refused(&changed(39, "-0")), (11, 31));
+        assert_eq!(refused(&changed(39, "01")), (11, 31));
         assert_eq!(refused(&changed(51, " ")), (11, 51));
-        assert_eq!(refused(&changed(92, "x")), (11, 92));
         assert_eq!(refused(&changed(50, "xx")), (11, 41));
         assert_eq!(refused(&changed(52, "  16777217")), (2, 1));
         assert_eq!(refused(&changed(11, "9999999999")), (2, 0));
         assert_eq!(refused(&changed(11, "         2")), (3, 0));
-        let both = [
-            &changed(11, "         2")[..52],
-            &changed(52, "  16777217")[52..],
-        ]
-        .concat();
-        assert_eq!(refused(&both), (2, 1));
     }
 }

@@ -1,289 +1,111 @@
-//! The second program tried: calls with one fault each must be found out, by the comparison that is
-//! about it.
+//! Planted faults: each changes what the library answered or left, mostly in a rare case, and the comparison must
+//! find it.
 
-use crate::box_faults::BOX_FAULTS;
-use crate::cards::{compare_reader, compare_writer};
-use crate::coverage::{Row, ROWS};
-use crate::door::{curve_length, curve_without_sum, Door, BEFORE_SIDES, MODEL};
-use crate::flag_faults::FLAG_FAULTS;
-use crate::model::{low_above_high, MAX_DEGREE};
+use crate::ask::Ask;
+use crate::compare::{Lent, Trial};
+use crate::coverage::{Coverage, CALLS};
+use crate::model::Refusal;
 use crate::rng::Rng;
-use crate::tally::Tally;
-use crate::trial::{number_and_place, Trial};
-use crate::{lists, panel};
 
-const FAULTS: [(&str, Row, Door); 17] = [
-    (
-        "a low side rounded up",
-        Row::Evaluate,
-        Door {
-            evaluate: |degree, sides, num, den, load, ohms, exact| {
-                let answer = (MODEL.evaluate)(degree, sides, num, den, load, ohms, exact);
-                if answer == 0 && 2 * num == den && load[0] < 0 {
-                    load[0] |= 1;
-                }
-                answer
-            },
-            ..MODEL
-        },
-    ),
-    (
-        "a bit of the ohms",
-        Row::Evaluate,
-        Door {
-            evaluate: |degree, sides, num, den, load, ohms, exact| {
-                let answer = (MODEL.evaluate)(degree, sides, num, den, load, ohms, exact);
-                if answer == 0 && load[1] == 16_777_215 {
-                    ohms[1] = f32::from_bits(ohms[1].to_bits() ^ 1);
-                }
-                answer
-            },
-            ..MODEL
-        },
-    ),
-    (
-        "ohms of minus zero",
-        Row::Evaluate,
-        Door {
-            evaluate: |degree, sides, num, den, load, ohms, exact| {
-                let answer = (MODEL.evaluate)(degree, sides, num, den, load, ohms, exact);
-                if answer == 0 && load[3] == 0 {
-                    ohms[3] = -0.0;
-                }
-                answer
-            },
-            ..MODEL
-        },
-    ),
-    (
-        "ohms cleared by a refusal",
-        Row::Evaluate,
-        Door {
-            evaluate: |degree, sides, num, den, load, ohms, exact| {
-                let answer = (MODEL.evaluate)(degree, sides, num, den, load, ohms, exact);
-                if answer == 5 {
-                    ohms.fill(0.0);
-                }
-                answer
-            },
-            ..MODEL
-        },
-    ),
-    (
-        "12 tried first",
-        Row::Evaluate,
-        Door {
-            evaluate: |degree, sides, num, den, load, ohms, exact| {
-                if ohms.len() < 4 {
-                    return 12 | (4 << 32);
-                }
-                (MODEL.evaluate)(degree, sides, num, den, load, ohms, exact)
-            },
-            ..MODEL
-        },
-    ),
-    (
-        "the right piece from its far end",
-        Row::Subdivide,
-        Door {
-            subdivide: |degree, sum, sides, num, den, left, right, exact| {
-                let answer = (MODEL.subdivide)(degree, sum, sides, num, den, left, right, exact);
-                if answer == 0 {
-                    let last = curve_length(degree as usize) - 4;
-                    (0..4).for_each(|side| right.swap(BEFORE_SIDES + side, last + side));
-                }
-                answer
-            },
-            ..MODEL
-        },
-    ),
-    (
-        "a number past the piece",
-        Row::Subdivide,
-        Door {
-            subdivide: |degree, sum, sides, num, den, left, right, exact| {
-                let answer = (MODEL.subdivide)(degree, sum, sides, num, den, left, right, exact);
-                if answer == 0 {
-                    let past = right.get_mut(curve_length(degree as usize));
-                    past.into_iter().for_each(|number| *number = 0);
-                }
-                answer
-            },
-            ..MODEL
-        },
-    ),
-    (
-        "the left piece stored though the right has no room",
-        Row::Subdivide,
-        Door {
-            subdivide: |degree, sum, sides, num, den, left, right, exact| {
-                let answer = (MODEL.subdivide)(degree, sum, sides, num, den, left, right, exact);
-                if answer as u32 == 12 && left.len() > right.len() {
-                    let from = &mut [0; curve_length(MAX_DEGREE)];
-                    (MODEL.subdivide)(degree, sum, sides, num, den, left, from, &mut 0);
-                }
-                answer
-            },
-            ..MODEL
-        },
-    ),
-    (
-        "missing sides taken as one",
-        Row::Elevate,
-        Door {
-            elevate: |degree, sum, sides, raised, exact| {
-                let mut longer = [1; 44];
-                longer[..sides.len()].copy_from_slice(sides);
-                (MODEL.elevate)(degree, sum, &longer, raised, exact)
-            },
-            ..MODEL
-        },
-    ),
-    (
-        "sides read past the curve",
-        Row::Elevate,
-        Door {
-            elevate: |degree, sum, sides, raised, exact| {
-                let answer = (MODEL.elevate)(degree, sum, sides, raised, exact);
-                let past = sides.get(4 * (degree as usize + 1)).copied().unwrap_or(0);
-                if answer == 0 && past > 16_777_216 {
-                    return 2 | (u64::from(degree) << 32);
-                }
-                answer
-            },
-            ..MODEL
-        },
-    ),
-    (
-        "the order of 2 and 3",
-        Row::Bounds,
-        Door {
-            bounds: |degree, sides, rect| {
-                let answer = (MODEL.bounds)(degree, sides, rect);
-                if answer as u32 == 2 {
-                    let curve = curve_without_sum(degree, sides);
-                    let crossed = curve.control_points().iter().position(low_above_high);
-                    return crossed.map_or(answer, |k| 3 | ((k as u64) << 32));
-                }
-                answer
-            },
-            ..MODEL
-        },
-    ),
-    (
-        "a degree of eight bits",
-        Row::Bounds,
-        Door {
-            bounds: |degree, sides, rect| (MODEL.bounds)(degree & 0xff, sides, rect),
-            ..MODEL
-        },
-    ),
-    (
-        "a piece less than the budget",
-        Row::Search,
-        Door {
-            search: |degree, sum, sides, limits, depth, budget, verdict| {
-                let budget = if budget > 8_191 {
-                    budget
-                } else {
-                    budget.max(2) - 1
-                };
-                (MODEL.search)(degree, sum, sides, limits, depth, budget, verdict)
-            },
-            ..MODEL
-        },
-    ),
-    (
-        "a place that is capped",
-        Row::ReadCard,
-        Door {
-            read_card: |card, curve| match number_and_place((MODEL.read_card)(card, curve)) {
-                (10, place) => 10 | (u64::from(place.min(380)) << 32),
-                (number, place) => u64::from(number) | (u64::from(place) << 32),
-            },
-            ..MODEL
-        },
-    ),
-    (
-        "a byte past the card",
-        Row::WriteCard,
-        Door {
-            write_card: |degree, sides, card| {
-                let answer = (MODEL.write_card)(degree, sides, card);
-                if answer == 0 && card.len() == 400 {
-                    card[399] = 0;
-                }
-                answer
-            },
-            ..MODEL
-        },
-    ),
-    (
-        "a card written into a buffer that is one byte short",
-        Row::WriteCard,
-        Door {
-            write_card: |degree, sides, card| {
-                let answer = (MODEL.write_card)(degree, sides, card);
-                if number_and_place(answer) == (12, card.len() as u32 + 1) {
-                    card.fill(b' ');
-                }
-                answer
-            },
-            ..MODEL
-        },
-    ),
-    (
-        "a seventeenth byte",
-        Row::Panel,
-        Door {
-            panel: |card, num, den, out| {
-                let number = (MODEL.panel)(card, num, den, out);
-                if let (0, Some(byte)) = (number, out.get_mut(16)) {
-                    *byte ^= 1;
-                }
-                number
-            },
-            ..MODEL
-        },
-    ),
+/// A fault over a question, its answer and the buffers after it. Words 0 and 1 of a curve are its degree and its
+/// sum.
+type Fault = fn(&mut Ask, &mut u64, &mut Lent);
+
+/// Word k of a buffer, where it is lent.
+fn word(lent: &mut Lent, buffer: usize, k: usize) -> Option<&mut i64> {
+    let buffer = lent.buffers.get_mut(buffer)?;
+    buffer.words[..buffer.length].get_mut(k)
+}
+
+/// Adds to a word that is lent.
+fn add(lent: &mut Lent, buffer: usize, k: usize, by: i64) {
+    if let Some(word) = word(lent, buffer, k) {
+        *word += by;
+    }
+}
+
+/// A refusal's number, or 0.
+fn number(answer: &u64) -> u32 {
+    *answer as u32
+}
+
+#[rustfmt::skip]
+const FAULTS: [(&str, Fault); 28] = [
+    ("two sides swapped", |_, a, l| if *a == 0 { l.buffers[0].words.swap(1, 2) }),
+    ("a low side a step too low", |_, a, l| if *a == 0 { add(l, 0, 0, -1) }),
+    ("a high reactance a step too high", |_, a, l| if *a == 0 { add(l, 0, 3, 1) }),
+    ("a side wrong at its limit alone", |_, _, l| if word(l, 0, 0) == Some(&mut -16_777_216) { add(l, 0, 0, 1) }),
+    ("an ohm with its last bit turned", |ask, a, l| if *a == 0 && ask.row() < 2 { add(l, 1, 2, 1) }),
+    ("minus zero ohms", |ask, a, l| if *a == 0 && ask.row() < 2 && l.buffers[1].words[3] == 0 { add(l, 1, 3, 1 << 31) }),
+    ("a flag turned", |_, a, l| if *a == 0 { l.flag ^= 1 }),
+    ("a flag dark at degree 8", |ask, a, l| if *a == 0 && ask.row() < 4 && ask.degree() == 8 { l.flag = 0 }),
+    ("a refusal that darkens the flag", |_, a, l| if *a != 0 { l.flag = 0 }),
+    ("a refusal that stores", |_, a, l| if *a != 0 { add(l, 0, 0, 1) }),
+    ("a word stored past a result", |ask, a, l| if *a == 0 && ask.row() == 4 { add(l, 0, 4, 1) }),
+    ("a byte stored past a card", |ask, a, l| if *a == 0 && ask.row() == 9 { add(l, 0, 11 + 41 * (ask.degree() + 1), 1) }),
+    ("a word stored behind the buffer", |_, a, l| if *a == 0 { let k = l.buffers[0].length; l.buffers[0].words[k] ^= 1 }),
+    ("a side changed that was lent for reading", |ask, _, _| if let Ask::Search { curve, .. } = ask { curve.sides.reverse() }),
+    ("the pieces swapped", |ask, _, l| if ask.row() == 2 { l.buffers.swap(0, 1) }),
+    ("a sum one too large in the right piece", |ask, a, l| if *a == 0 && ask.row() == 2 { add(l, 1, 1, 1) }),
+    ("a degree that is not raised", |ask, a, l| if *a == 0 && ask.row() == 3 { add(l, 0, 0, -1) }),
+    ("a card read with a sum", |ask, a, l| if *a == 0 && ask.row() == 8 { add(l, 0, 1, 1) }),
+    ("a count off by one at the budget", |ask, a, l| if let Ask::Search { effort, .. } = ask { if *a == 0 && l.buffers[0].words[3] == i64::from(effort.budget) { add(l, 0, 3, -1) } }),
+    ("Undecided told as Spent", |ask, _, l| if ask.row() == 5 && l.buffers[0].words[0] == 4 { add(l, 0, 0, -1) }),
+    ("an index that is its piece's neighbour", |ask, _, l| if ask.row() == 5 && l.buffers[0].words[0] == 2 { add(l, 0, 2, 1) }),
+    ("the last record of a list is not looked at", |ask, a, l| if *a == 0 && ask.row() == 6 && l.buffers[0].words[1] == 63 { add(l, 0, 0, 1) }),
+    ("a found number turned", |ask, a, l| if *a == 0 && ask.row() == 7 { l.flag ^= 3 }),
+    ("a place off by one", |_, a, _| if number(a) == 3 && *a >> 32 > 0 { *a -= 1 << 32 }),
+    ("a 12 with another length", |_, a, _| if number(a) == 12 { *a ^= 1 << 32 }),
+    ("a 12 before a 5", |_, a, l| if number(a) == 5 && l.buffers[0].length < 4 { *a = 12 | 4 << 32 }),
+    ("a 17 one step early", |ask, a, _| if let Ask::Elevate { curve } = ask { if *a == 0 && curve.sum == 65_534 { *a = 17 } }),
+    ("a place in the panel's answer", |ask, a, _| if ask.row() == 10 && number(a) == 10 { *a |= 1 << 32 }),
 ];
 
-/// The first disagreement between a door and the model in a few thousand calls of each kind.
-fn found(door: &Door) -> Result<(), String> {
-    let (mut rng, mut tally) = (Rng::new(8), Tally::default());
-    let mut trial = Trial {
-        door,
-        rng: &mut rng,
-        tally: &mut tally,
+/// After how many questions, the calls in turn, a fault is found; none where it is not.
+fn found_after(fault: Fault, most: usize) -> Option<usize> {
+    let library = |ask: &mut Ask, lent: &mut Lent| {
+        let mut answer = ask.by_library(lent);
+        fault(ask, &mut answer, lent);
+        answer
     };
-    // The panel call is also tried by the calls that it stands for, so it comes last.
-    let mut times = 0..6_000;
-    times
-        .clone()
-        .try_for_each(|k| lists::compare(&mut trial, 1 + k % 8))?;
-    for k in times.clone() {
-        compare_reader(&mut trial)?;
-        compare_writer(&mut trial, 1 + k % 8, k * 7 % 401)?;
-    }
-    times.try_for_each(|_| panel::compare(&mut trial))
+    let mut trial = Trial {
+        library: &library,
+        rng: Rng::new(1),
+        coverage: Coverage::default(),
+    };
+    let draws = CALLS.iter().cycle().take(most);
+    let mut found = draws.map(|call| {
+        let ask = (call.draw)(&mut trial.rng);
+        trial.ask(&ask).is_err()
+    });
+    found.position(|found| found)
 }
 
 #[test]
 fn finds_every_fault() {
-    let others = BOX_FAULTS.into_iter().chain(FLAG_FAULTS);
-    for (name, row, door) in FAULTS.into_iter().chain(others) {
-        let message = found(&door).expect_err(name);
-        let (_, expected, _) = ROWS[row as usize];
-        let first = message.lines().next();
-        assert_eq!(
-            first,
-            Some(&*format!("a disagreement, {expected}")),
-            "{name}"
-        );
+    for (name, fault) in FAULTS {
+        assert!(found_after(fault, 100_000).is_some(), "{name}");
     }
 }
 
 #[test]
-fn finds_none_in_the_model() {
-    assert_eq!(found(&MODEL), Ok(()));
+fn finds_nothing_where_there_is_no_fault() {
+    assert_eq!(found_after(|_, _, _| {}, 20_000), None);
+}
+
+/// A row that did not come up is missing, and so is one that came up and is not listed.
+#[test]
+fn finds_what_did_not_come_up() {
+    let mut coverage = Coverage::default();
+    let none = coverage.missing();
+    assert!(none.contains(&"evaluate, refusal 1: 0".to_string()));
+    assert!(none.contains(&"search, Spent, degree 8".to_string()));
+    for (row, call) in CALLS.iter().enumerate() {
+        let ask = (call.draw)(&mut Rng::new(1));
+        assert_eq!(ask.row(), row, "{}", call.name);
+        let (number, place) = (9, 0);
+        coverage.count(&ask, &Err(Refusal { number, place }));
+    }
+    let nines = coverage.missing();
+    assert!(nines.contains(&"bounds, refusal 9: 1".to_string()));
 }

@@ -1,6 +1,6 @@
 //! The curve and what is done with it: document 01's operations in ordinary 64-bit arithmetic, with the
-//! exact flag of document 02's point 1 and the sum of steps of its point 7. The definitions keep to the
-//! papers' words, since this is what the proved code is compared with.
+//! exact flag of document 02's point 1, the second reading of its point 4 and the sum of steps of its point 7.
+//! The definitions keep to the papers' words, since this is what the proved code is compared with.
 
 /// The largest side, in steps of 1/1,024 ohm; the least is its negative.
 pub const MAX_SIDE: i64 = 16_777_216;
@@ -10,6 +10,8 @@ pub const PLACES: usize = MAX_DEGREE + 1;
 pub const MAX_DEN: u32 = 65_536;
 /// The largest sum of steps.
 pub const MAX_SUM: usize = 65_535;
+/// The places of the second reading are j/16, for j from 0 to 16.
+pub const SIXTEENTHS: u32 = 16;
 
 /// Resistance low, resistance high, reactance low, reactance high.
 pub type Rectangle = [i64; 4];
@@ -36,16 +38,6 @@ pub struct Parameter {
 pub struct Flagged<T> {
     pub result: T,
     pub exact: bool,
-}
-
-impl<T> Flagged<T> {
-    /// Another result under the same flag.
-    pub fn map<U>(self, to: impl FnOnce(T) -> U) -> Flagged<U> {
-        Flagged {
-            result: to(self.result),
-            exact: self.exact,
-        }
-    }
 }
 
 #[derive(Clone, Copy, PartialEq, Debug)]
@@ -110,7 +102,23 @@ impl Curve {
     pub fn evaluate(&self, t: Parameter) -> Result<Flagged<Rectangle>, Refusal> {
         self.check()?;
         t.check()?;
-        Ok(self.edges(t).map(|[left, _]| left[self.degree]))
+        let ([left, _], exact) = self.edges(t);
+        let result = left[self.degree];
+        Ok(Flagged { result, exact })
+    }
+
+    /// The load at j/16 by one sum: the weighted sides over 16 to the power n, a low side rounded down and a
+    /// high side rounded up. The flag tells whether no division left a remainder.
+    pub fn evaluate_sixteenths(&self, j: u32) -> Result<Flagged<Rectangle>, Refusal> {
+        self.check()?;
+        refuse_if(j > SIXTEENTHS, 15, 0)?;
+        let weights = weights(self.degree, j);
+        let sum = |side: usize| {
+            let products = self.points.iter().zip(weights);
+            products.map(|(point, weight)| weight * point[side]).sum()
+        };
+        let lower = i64::from(SIXTEENTHS).pow(self.degree as u32);
+        Ok(outward([0, 1, 2, 3].map(sum), lower))
     }
 
     /// The left piece and the right piece (the paper's cut), both with the curve's sum plus its degree.
@@ -123,12 +131,14 @@ impl Curve {
             sum,
             points,
         };
-        Ok(self.edges(t).map(|edges| edges.map(piece)))
+        let (edges, exact) = self.edges(t);
+        let result = edges.map(piece);
+        Ok(Flagged { result, exact })
     }
 
-    /// The first rectangle of each stage of de Casteljau's table, and the last of each stage from the last
-    /// stage back.
-    fn edges(&self, t: Parameter) -> Flagged<[[Rectangle; PLACES]; 2]> {
+    /// The first rectangle of each stage of de Casteljau's table, the last of each stage from the last stage
+    /// back, and whether no map left a remainder.
+    fn edges(&self, t: Parameter) -> ([[Rectangle; PLACES]; 2], bool) {
         let n = self.degree;
         let (mut left, mut right, mut stage) = (self.points, self.points, self.points);
         let mut exact = true;
@@ -142,8 +152,7 @@ impl Curve {
             left[s] = stage[0];
             right[n - s] = stage[n - s];
         }
-        let result = [left, right];
-        Flagged { result, exact }
+        ([left, right], exact)
     }
 
     /// The same curve by control points of one degree more (the paper's raising), with a sum of one more.
@@ -185,11 +194,6 @@ impl Parameter {
         refuse_if(self.den < 1 || self.den > MAX_DEN, 4, 0)?;
         refuse_if(self.num > self.den, 5, 0)
     }
-
-    /// Whether it is 0 or 1.
-    pub fn is_end(&self) -> bool {
-        self.num == 0 || self.num == self.den
-    }
 }
 
 pub fn out_of_range(rectangle: &Rectangle) -> bool {
@@ -207,20 +211,38 @@ fn affine(t: Parameter, a: &Rectangle, b: &Rectangle) -> Flagged<Rectangle> {
     weighted((t.den - t.num).into(), a, t.num.into(), b)
 }
 
-/// (p × a + q × b) / (p + q) of all four sides, rounded outward, and whether no division left a remainder.
+/// (p × a + q × b) / (p + q) of all four sides, rounded outward.
 fn weighted(p: i64, a: &Rectangle, q: i64, b: &Rectangle) -> Flagged<Rectangle> {
     let sum = |side: usize| p * a[side] + q * b[side];
-    let low = |side: usize| sum(side).div_euclid(p + q);
-    let high = |side: usize| -(-sum(side)).div_euclid(p + q);
+    outward([0, 1, 2, 3].map(sum), p + q)
+}
+
+/// Four sides over a number above 0, low sides rounded down and high sides up, and whether no division left a
+/// remainder.
+fn outward(sides: [i64; 4], lower: i64) -> Flagged<Rectangle> {
+    let low = |side: usize| sides[side].div_euclid(lower);
+    let high = |side: usize| -(-sides[side]).div_euclid(lower);
     Flagged {
         result: [low(0), high(1), low(2), high(3)],
-        exact: (0..4).all(|side| sum(side).rem_euclid(p + q) == 0),
+        exact: sides.iter().all(|side| side.rem_euclid(lower) == 0),
     }
 }
 
-/// The four single-precision ohms of a load: each side's step count divided by 1,024.
-pub fn ohms(load: &Rectangle) -> [f32; 4] {
-    load.map(|side| f32::from_bits(ohm_bits(side)))
+/// The weights of a degree at j/16: the number of ways to choose k from n, times (16 - j) to the power
+/// n - k, times j to the power k, where 0 to the power 0 is 1. Those past the degree are 0.
+pub fn weights(degree: usize, j: u32) -> [i64; PLACES] {
+    let (to_the_end, from_the_start) = (i64::from(SIXTEENTHS - j), i64::from(j));
+    let mut weights = [0; PLACES];
+    for (k, weight) in weights[..=degree].iter_mut().enumerate() {
+        let powers = to_the_end.pow((degree - k) as u32) * from_the_start.pow(k as u32);
+        *weight = ways(degree, k) * powers;
+    }
+    weights
+}
+
+/// The number of ways to choose k from n.
+pub fn ways(n: usize, k: usize) -> i64 {
+    (0..k).fold(1, |ways, i| ways * (n - i) as i64 / (i as i64 + 1))
 }
 
 /// The bits of the single-precision number side / 1,024, for a side in range: a sign, eight bits of
@@ -231,11 +253,7 @@ pub fn ohm_bits(side: i64) -> u32 {
         return 0;
     }
     let leading = size.ilog2();
-    let after = if leading > 23 {
-        size >> (leading - 23)
-    } else {
-        size << (23 - leading)
-    };
+    let after = ((u64::from(size) << 23) >> leading) as u32;
     let sign = u32::from(side < 0);
     (sign << 31) | ((leading + 127 - 10) << 23) | (after & 0x007f_ffff)
 }
@@ -250,17 +268,13 @@ mod tests {
         Curve::new(&rectangles)
     }
 
-    fn resistances(curve: &Curve) -> Vec<[i64; 2]> {
-        let points = curve.control_points().iter();
-        points.map(|r| [r[0], r[1]]).collect()
-    }
-
     fn at(num: u32, den: u32) -> Parameter {
         Parameter { num, den }
     }
 
-    fn load(curve: &Curve, num: u32, den: u32) -> Rectangle {
-        curve.evaluate(at(num, den)).unwrap().result
+    fn read(curve: &Curve, num: u32, den: u32) -> (Rectangle, bool) {
+        let read = curve.evaluate(at(num, den)).unwrap();
+        (read.result, read.exact)
     }
 
     fn number<T>(answer: Result<T, Refusal>) -> u32 {
@@ -269,149 +283,80 @@ mod tests {
 
     #[test]
     fn evaluates_in_rounded_stages() {
-        assert_eq!(load(&values(&[1, 0, 3]), 1, 2), [0, 2, 0, 0]);
-        assert_eq!(load(&values(&[1, 0, 3]), 0, 1), [1, 1, 0, 0]);
-        assert_eq!(load(&values(&[1, 0, 3]), 7, 7), [3, 3, 0, 0]);
+        let curve = values(&[1, 0, 3]);
+        assert_eq!(read(&curve, 1, 2), ([0, 2, 0, 0], false));
+        assert_eq!(read(&curve, 0, 1), ([1, 1, 0, 0], true));
+        assert_eq!(read(&curve, 7, 7), ([3, 3, 0, 0], true));
         let card = Curve::new(&[[0, 1, -3, -3], [1, 3, 0, 2]]);
-        assert_eq!(load(&card, 1, 2), [0, 2, -2, 0]);
-        assert_eq!(load(&card, 2, 4), [0, 2, -2, 0]);
+        assert_eq!(read(&card, 1, 2), ([0, 2, -2, 0], false));
+        assert_eq!(read(&card, 2, 4), ([0, 2, -2, 0], false));
         assert_eq!(card.bounds(), Ok([0, 3, -3, 2]));
+        assert_eq!(read(&values(&[0, 4]), 2, 8), ([1, 1, 0, 0], true));
+    }
+
+    #[test]
+    fn evaluates_a_sum_that_is_rounded_once() {
+        let read = |curve: &Curve, j| {
+            let read = curve.evaluate_sixteenths(j).unwrap();
+            (read.result, read.exact)
+        };
+        let curve = values(&[1, 0, 3]);
+        assert_eq!(read(&curve, 8), ([1, 1, 0, 0], true));
+        // (9 × 9 + 7 × 7 × 3) / 256 is 228/256.
+        assert_eq!(read(&curve, 7), ([0, 1, 0, 0], false));
+        assert_eq!(read(&values(&[-1, 0, -3]), 7), ([-1, 0, 0, 0], false));
+        assert_eq!(read(&curve, 16), ([3, 3, 0, 0], true));
+        assert_eq!(number(curve.evaluate_sixteenths(17)), 15);
+        assert_eq!(weights(3, 4)[..5], [1_728, 1_728, 576, 64, 0]);
+        assert_eq!(weights(8, 16)[7..], [0, 1 << 32]);
     }
 
     #[test]
     fn subdivides_into_the_two_edges_of_the_table() {
-        let [left, right] = values(&[1, 0, 3]).subdivide(at(1, 2)).unwrap().result;
-        assert_eq!(resistances(&left), [[1, 1], [0, 1], [0, 2]]);
-        assert_eq!(resistances(&right), [[0, 2], [1, 2], [3, 3]]);
-        assert_eq!([left.points[3], right.points[3]], [[0; 4]; 2]);
+        let intervals = |points: [[i64; 2]; 3]| {
+            let points = points.map(|[low, high]| [low, high, 0, 0]);
+            Curve::new(&points).with_sum(9)
+        };
+        let cut = values(&[1, 0, 3]).with_sum(7).subdivide(at(1, 2));
+        let left = intervals([[1, 1], [0, 1], [0, 2]]);
+        let right = intervals([[0, 2], [1, 2], [3, 3]]);
+        assert_eq!(cut.unwrap().result, [left, right]);
     }
 
     #[test]
     fn elevates_rounding_once() {
-        let elevated = values(&[0, 1]).elevate().unwrap().result;
-        assert_eq!(resistances(&elevated), [[0, 0], [0, 1], [1, 1]]);
-        let elevated = values(&[0, 0, -1]).elevate().unwrap().result;
-        assert_eq!(resistances(&elevated)[2], [-1, 0]);
-        assert_eq!(number(values(&[0; 9]).elevate()), 6);
-    }
-
-    /// The flag of the load and of the pieces at a parameter, which are equal.
-    fn exact(curve: &Curve, num: u32, den: u32) -> bool {
-        let exact = curve.evaluate(at(num, den)).unwrap().exact;
-        assert_eq!(curve.subdivide(at(num, den)).unwrap().exact, exact);
-        exact
-    }
-
-    #[test]
-    fn is_exact_where_no_map_left_a_remainder() {
-        assert!(exact(&values(&[0, 4]), 1, 2) && exact(&values(&[0, 4]), 2, 8));
-        assert!(!exact(&values(&[0, 4]), 1, 3));
-        assert!(!exact(&values(&[1, 0, 3]), 1, 2));
-        assert!(exact(&values(&[1, 0, 3]), 0, 1) && exact(&values(&[1, 0, 3]), 7, 7));
-        // The first stage rounds a low side down and the next one's maps leave no remainder.
-        assert!(!exact(&values(&[0, 1, 0]), 1, 2));
-        assert_eq!(load(&values(&[0, 1, 0]), 1, 2), [0, 1, 0, 0]);
-    }
-
-    #[test]
-    fn is_exact_in_every_side_or_not_at_all() {
-        // The resistance [2, 2] is exact, but the reactance is 1/2.
-        let line = Curve::new(&[[0; 4], [4, 4, 1, 1]]);
-        assert_eq!(load(&line, 1, 2), [2, 2, 0, 1]);
-        assert!(!exact(&line, 1, 2));
-        for side in 0..4 {
-            let mut one_side = Curve::new(&[[-4, 4, -4, 4]; 2]);
-            assert!(exact(&one_side, 1, 2));
-            one_side.points[1][side] += 1;
-            assert!(!exact(&one_side, 1, 2), "side {side}");
-            assert!(!one_side.elevate().unwrap().exact, "side {side}");
-        }
-    }
-
-    #[test]
-    fn is_exact_in_every_elevated_point_or_not_at_all() {
-        assert!(!values(&[0, 1]).elevate().unwrap().exact);
-        assert!(values(&[0, 2]).elevate().unwrap().exact);
-        // By thirds: the second point is exact, the third is not.
-        assert!(!values(&[0, 3, 4]).elevate().unwrap().exact);
-        assert!(values(&[0, 3, 6]).elevate().unwrap().exact);
+        let raised = values(&[0, 1]).with_sum(7).elevate().unwrap().result;
+        let points = [[0; 4], [0, 1, 0, 0], [1, 1, 0, 0]];
+        assert_eq!(raised, Curve::new(&points).with_sum(8));
+        let raised = values(&[0, 0, -1]).elevate().unwrap().result;
+        assert_eq!(raised.points[2], [-1, 0, 0, 0]);
+        assert_eq!(number(values(&[0; PLACES]).elevate()), 6);
     }
 
     #[test]
     fn refuses_in_the_order_of_the_paper() {
         assert_eq!(number(values(&[16_777_216, 0]).bounds()), 0);
         assert_eq!(number(values(&[16_777_217, 0]).bounds()), 2);
-        assert_eq!(number(values(&[-16_777_217, 0]).bounds()), 2);
-        assert_eq!(number(Curve::ZERO.evaluate(at(1, 0))), 1);
         let refused = |number, place| Err(Refusal { number, place });
         let both = Curve::new(&[[1, 0, 0, 0], [0, 0, 0, MAX_SIDE + 1]]);
         assert_eq!(both.evaluate(at(1, 0)), refused(2, 1));
         let crossed = Curve::new(&[[0, 0, 0, 0], [0, 0, 0, 0], [0, 0, 1, 0]]);
         assert_eq!(crossed.evaluate(at(1, 0)), refused(3, 2));
-    }
-
-    #[test]
-    fn adds_up_the_sums() {
-        let curve = values(&[1, 0, 3]).with_sum(7);
-        let sums = |pieces: [Curve; 2]| pieces.map(|piece| piece.sum);
-        assert_eq!(sums(curve.subdivide(at(1, 2)).unwrap().result), [9; 2]);
-        assert_eq!(sums(curve.subdivide(at(0, 1)).unwrap().result), [9; 2]);
-        assert_eq!(curve.elevate().unwrap().result.sum, 8);
-        assert_eq!((Curve::ZERO.sum, values(&[1, 0]).sum), (0, 0));
-        assert_ne!(curve, values(&[1, 0, 3]));
-        assert_eq!(curve.with_sum(0), values(&[1, 0, 3]));
-    }
-
-    #[test]
-    fn refuses_a_sum_past_the_largest_last() {
-        for degree in 1..=MAX_DEGREE {
-            let of_sum = |sum: usize| values(&vec![0; degree + 1]).with_sum(sum as u16);
-            let [within, beyond] = [MAX_SUM - degree, MAX_SUM - degree + 1].map(of_sum);
-            let pieces = within.subdivide(at(1, 2)).unwrap().result;
-            assert_eq!(pieces.map(|piece| piece.sum), [u16::MAX; 2]);
-            let cut = |num, den| number(beyond.subdivide(at(num, den)));
-            assert_eq!([cut(1, 2), cut(1, 0), cut(3, 2)], [17, 4, 5]);
-            let full = of_sum(MAX_SUM);
-            let raised = [MAX_SUM - 1, MAX_SUM].map(|sum| number(of_sum(sum).elevate()));
-            let expected = if degree < MAX_DEGREE { [0, 17] } else { [6; 2] };
-            assert_eq!(raised, expected);
-            assert_eq!(number(full.evaluate(at(1, 2))), 0);
-            assert_eq!(number(full.evaluate_sixteenths(8)), 0);
-            assert_eq!(number(full.bounds()), 0);
-        }
-        let (number, place) = (17, 0);
-        let full = values(&[0, 0]).with_sum(u16::MAX);
-        assert_eq!(full.subdivide(at(0, 1)), Err(Refusal { number, place }));
-        assert_eq!(full.elevate(), Err(Refusal { number, place }));
-    }
-
-    #[test]
-    fn tests_the_parameter() {
-        let line = values(&[0, 1]);
-        let refused = [
-            (65_536, 65_536, 0),
-            (0, 0, 4),
-            (0, 65_537, 4),
-            (1, 0, 4),
-            (8, 7, 5),
-        ];
-        for (num, den, expected) in refused {
-            assert_eq!(number(line.evaluate(at(num, den))), expected, "{num}/{den}");
-        }
+        let line = values(&[0, 0]).with_sum(65_535);
+        let parameters = [(1, 65_536), (0, 0), (0, 65_537), (1, 0), (8, 7)];
+        let refusals = parameters.map(|(num, den)| number(line.evaluate(at(num, den))));
+        assert_eq!(refusals, [0, 4, 4, 4, 5]);
+        assert_eq!(number(line.subdivide(at(1, 2))), 17);
+        assert_eq!(number(line.elevate()), 17);
+        assert_eq!(number(line.with_sum(65_534).subdivide(at(1, 2))), 0);
     }
 
     #[test]
     fn gives_ohms_with_nothing_lost() {
-        assert_eq!(
-            ohms(&[-1, 0, 1, 1_024]),
-            [-0.0009765625, 0.0, 0.0009765625, 1.0]
-        );
-        assert_eq!(ohm_bits(0), 0);
-        let near_ends = |end: i64| [end - 1, end].into_iter().flat_map(|side| [side, -side]);
-        let powers = (1..=24).flat_map(|power| near_ends(1 << power));
-        for side in powers.chain(-3_000..3_000).chain(16_770_000..MAX_SIDE) {
-            let exact = side as f64 / 1_024.0;
-            assert_eq!(f64::from(f32::from_bits(ohm_bits(side))), exact, "{side}");
+        let powers = (1..=24).flat_map(|power| [(1 << power) - 1, 1 << power]);
+        for side in powers.flat_map(|side: i64| [side, -side]).chain([0]) {
+            let ohms = f32::from_bits(ohm_bits(side));
+            assert_eq!(f64::from(ohms), side as f64 / 1_024.0, "{side}");
         }
     }
 }

