@@ -13,16 +13,16 @@ use second::{demand3, readings, record_sum, verdicts};
 use std::process::ExitCode;
 use std::time::Instant;
 
-type Work = fn(&mut Trial) -> Result<(), String>;
+type Check = fn(&mut Trial) -> Result<(), String>;
 
 /// What is tried with exact fractions, and how often.
-const FACTS: [(Work, usize); 4] = [
+const FACTS: [(Check, usize); 4] = [
     (demand3::check, 120_000),
     (record_sum::check, 20_000),
     (verdicts::check, 60_000),
     (readings::check, 120_000),
 ];
-const PARTS: usize = 100;
+const PARTS: usize = 1_000;
 
 fn main() -> ExitCode {
     let begun = Instant::now();
@@ -51,39 +51,36 @@ fn curves() -> usize {
     CALLS.iter().filter(lends).map(|call| call.drawn).sum()
 }
 
-/// Every call as often as the table says, then the facts.
+/// The parts in turn, each with its share of every call and every fact, so that what is wrong comes up soon.
 fn run() -> Result<Coverage, String> {
     let mut all = Coverage::default();
-    for (kind, call) in CALLS.iter().enumerate() {
-        in_all_parts(kind, call.drawn, &mut all, |trial| {
-            let ask = (call.draw)(&mut trial.rng);
-            trial.ask(&ask).map(|_| ())
-        })?;
-    }
-    for (kind, (work, times)) in FACTS.iter().enumerate() {
-        in_all_parts(CALLS.len() + kind, *times, &mut all, work)?;
+    for coverage in in_parts(PARTS, part)? {
+        all.add(&coverage);
     }
     Ok(all)
 }
 
-fn in_all_parts(
-    kind: usize,
-    times: usize,
-    all: &mut Coverage,
-    work: impl Fn(&mut Trial) -> Result<(), String> + Sync,
-) -> Result<(), String> {
-    let library = |ask: &mut Ask, lent: &mut Lent| ask.by_library(lent);
-    let done = in_parts(PARTS, |part| {
-        let mut trial = Trial {
-            library: &library,
-            rng: Rng::of_part(kind, part),
-            coverage: Coverage::default(),
-        };
-        (0..times / PARTS).try_for_each(|_| work(&mut trial))?;
-        Ok(trial.coverage)
-    })?;
-    done.iter().for_each(|coverage| all.add(coverage));
-    Ok(())
+fn part(part: usize) -> Result<Coverage, String> {
+    let mut trial = Trial {
+        library: &|ask: &mut Ask, lent: &mut Lent| ask.by_library(lent),
+        rng: Rng::of_part(part),
+        coverage: Coverage::default(),
+    };
+    let compared = compare(&mut trial);
+    let calls = trial.coverage.calls();
+    compared.map_err(|message| format!("part {part}, after {calls} calls\n{message}"))?;
+    Ok(trial.coverage)
+}
+
+fn compare(trial: &mut Trial) -> Result<(), String> {
+    for call in &CALLS {
+        for _ in 0..call.drawn / PARTS {
+            let ask = (call.draw)(&mut trial.rng);
+            trial.ask(&ask)?;
+        }
+    }
+    let mut facts = FACTS.iter();
+    facts.try_for_each(|(check, times)| (0..times / PARTS).try_for_each(|_| check(trial)))
 }
 
 /// A card longer than 32 bits can say: its place is the largest that there is, and the panel's number the same.

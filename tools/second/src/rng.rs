@@ -16,10 +16,9 @@ impl Rng {
         Rng(seed)
     }
 
-    /// The numbers of one part of one kind of work.
-    pub fn of_part(kind: usize, part: usize) -> Rng {
-        let seed = Rng::new(SEED + kind as u64).draw();
-        Rng::new(Rng::new(seed.wrapping_add(part as u64)).draw())
+    /// The numbers of one part.
+    pub fn of_part(part: usize) -> Rng {
+        Rng::new(Rng::new(SEED + part as u64).draw())
     }
 
     pub fn draw(&mut self) -> u64 {
