@@ -10,14 +10,6 @@ const TEXTS: [&str; 3] = [
     include_str!("../../../examples/sum_of_steps.calls"),
 ];
 
-/// The line that ends a case, which has no answer.
-const END: &str = "         0\n";
-
-/// A text of one case without the line that ends it.
-fn one_case(text: &str) -> &str {
-    text.strip_suffix(END).unwrap_or(text)
-}
-
 /// The lines of the answers, and whether the text was read to its end.
 fn answers(text: &str) -> (Vec<String>, bool) {
     let mut written = Vec::new();
@@ -27,7 +19,7 @@ fn answers(text: &str) -> (Vec<String>, bool) {
     (lines.lines().map(str::to_string).collect(), ended.is_ok())
 }
 
-/// The offsets at which a text's card and its calls begin, each call with the records of its list.
+/// The offsets at which the card, the calls, each with the records of its list, and the last line of a case begin.
 fn beginnings(text: &str) -> Vec<usize> {
     let mut offsets = vec![];
     let (mut offset, mut within) = (0, 0);
@@ -58,16 +50,15 @@ fn stops(text: &str, whole: &[String], beginnings: &[usize], k: usize) {
 
 #[test]
 fn stops_at_any_byte_that_is_missing_or_wrong() {
-    for text in TEXTS.map(one_case) {
+    for text in TEXTS {
         let (whole, ended) = answers(text);
         let beginnings = beginnings(text);
-        assert!(ended && whole.len() == beginnings.len());
+        // The last line has no answer.
+        assert!(ended && whole.len() + 1 == beginnings.len());
         for place in 0..text.len() {
             let k = beginnings.partition_point(|first| *first <= place) - 1;
             stops(&damaged(text, place), &whole, &beginnings, k);
-            if beginnings.contains(&place) {
-                assert_eq!(answers(&text[..place]), (whole[..k].to_vec(), true));
-            } else {
+            if place > 0 {
                 stops(&text[..place], &whole, &beginnings, k);
             }
         }
@@ -81,8 +72,8 @@ fn damaged(text: &str, place: usize) -> String {
 
 #[test]
 fn answers_a_long_text() {
-    let (case, times) = (one_case(TEXTS[0]), 2_000);
+    let (case, times) = (TEXTS[0], 2_000);
     let (once, _) = answers(case);
-    let (often, ended) = answers(&format!("{case}{END}").repeat(times));
+    let (often, ended) = answers(&case.repeat(times));
     assert!(ended && often == vec![once; times].concat());
 }
