@@ -169,6 +169,18 @@ fn searches_a_box() {
         curve.search(whole, 12, 8191),
         Ok(Verdict::Inside { count: 1 })
     );
+    // At budget 8,191 a walk is never spent: this one looks at every piece down to depth 12.
+    let wide = Curve {
+        degree: MAX_DEGREE,
+        points: [Rect::from([-1, 1, -1, 1]); PLACES],
+        ..Curve::default()
+    };
+    let all_pieces = Verdict::Undecided {
+        depth: 12,
+        index: 0,
+        count: 8191,
+    };
+    assert_eq!(wide.search([0, 1, 0, 1].into(), 12, 8191), Ok(all_pieces));
     // At the high side a load is no longer in the box.
     let undecided = Verdict::Undecided {
         depth: 0,
