@@ -161,61 +161,49 @@ impl Ask {
     }
 
     /// What the model says: what the call stores, or how it is refused, 12 aside.
+    #[rustfmt::skip]
     pub fn by_model(&self) -> Result<Stored, Refusal> {
-        match self {
-            Ask::Evaluate { curve, t } => Ok(reading(curve.curve().evaluate(*t)?)),
-            Ask::EvaluateSixteenths { curve, j } => {
-                Ok(reading(curve.curve().evaluate_sixteenths(*j)?))
-            }
+        Ok(match self {
+            Ask::Evaluate { curve, t } => reading(curve.curve().evaluate(*t)?),
+            Ask::EvaluateSixteenths { curve, j } => reading(curve.curve().evaluate_sixteenths(*j)?),
             Ask::Subdivide { curve, t } => {
                 let pieces = curve.curve().subdivide(*t)?;
-                let buffers = pieces.result.each_ref().map(curve_words).to_vec();
-                Ok(Stored::with_flag(buffers, pieces.exact.into()))
+                curves(&pieces.result, pieces.exact)
             }
             Ask::Elevate { curve } => {
                 let raised = curve.curve().elevate()?;
-                let buffers = vec![curve_words(&raised.result)];
-                Ok(Stored::with_flag(buffers, raised.exact.into()))
+                curves(&[raised.result], raised.exact)
             }
-            Ask::Bounds { curve } => Ok(Stored::one(curve.curve().bounds()?.to_vec())),
-            Ask::Search {
-                curve,
-                limits,
-                effort,
-            } => {
+            Ask::Bounds { curve } => Stored::one(curve.curve().bounds()?.to_vec()),
+            Ask::Search { curve, limits, effort } => {
                 let verdict = search_of(limits, *effort).over(&curve.curve())?;
-                Ok(Stored::one(verdict.map(i64::from).to_vec()))
+                Stored::one(verdict.map(i64::from).to_vec())
             }
-            Ask::ChooseSetting {
-                curve,
-                settings,
-                effort,
-            } => {
-                let chosen = settings_of(settings, *effort).choose(&curve.curve())?;
-                Ok(Stored::one(match chosen {
+            Ask::ChooseSetting { curve, settings, effort } => {
+                Stored::one(match settings_of(settings, *effort).choose(&curve.curve())? {
                     Some((index, number)) => vec![FITS, index as i64, number.into()],
                     None => vec![NONE_FITS, 0, 0],
-                }))
+                })
             }
-            Ask::Enclose { ohms } => Ok(match measurement(&ohms.bits()).enclose()? {
+            Ask::Enclose { ohms } => match measurement(&ohms.bits()).enclose()? {
                 Some(sides) => Stored::with_flag(vec![sides.to_vec()], RECTANGLE),
                 None => Stored::with_flag(vec![vec![]], NO_CARRIER),
-            }),
-            Ask::ReadCard { card } => Ok(Stored::one(curve_words(&curve_of(card)?))),
+            },
+            Ask::ReadCard { card } => Stored::one(curve_words(&curve_of(card)?)),
             Ask::WriteCard { curve } => {
                 let curve = curve.curve();
                 curve.check()?;
-                Ok(Stored::one(bytes(&card_of(&curve))))
+                Stored::one(bytes(&card_of(&curve)))
             }
             Ask::Panel { card, t } => {
                 let load = curve_of(card)?.evaluate(*t)?.result;
-                let sides = load.map(|side| (side as i32).to_le_bytes());
-                Ok(Stored::one(bytes(sides.as_flattened())))
+                Stored::one(bytes(load.map(|side| (side as i32).to_le_bytes()).as_flattened()))
             }
-        }
+        })
     }
 
     /// What the library answers, with what it leaves in the buffers lent to it.
+    #[rustfmt::skip]
     pub fn by_library(&self, lent: &mut Lent) -> u64 {
         match self {
             Ask::Evaluate { curve: c, t } => lent.two(|load, ohms, exact| {
@@ -231,20 +219,10 @@ impl Ask {
                 lent.one(|raised, exact| raw::elevate(c.degree, c.sum, &c.sides, raised, exact))
             }
             Ask::Bounds { curve: c } => lent.one(|rect, _| raw::bounds(c.degree, &c.sides, rect)),
-            Ask::Search {
-                curve: c,
-                limits,
-                effort: e,
-            } => lent.one(|verdict, _| {
-                raw::search(
-                    c.degree, c.sum, &c.sides, limits, e.depth, e.budget, verdict,
-                )
+            Ask::Search { curve: c, limits, effort: e } => lent.one(|verdict, _| {
+                raw::search(c.degree, c.sum, &c.sides, limits, e.depth, e.budget, verdict)
             }),
-            Ask::ChooseSetting {
-                curve: c,
-                settings: s,
-                effort: e,
-            } => lent.one(|choice, _| {
+            Ask::ChooseSetting { curve: c, settings: s, effort: e } => lent.one(|choice, _| {
                 raw::choose_setting(c.degree, c.sum, &c.sides, s, e.depth, e.budget, choice)
             }),
             Ask::Enclose { ohms } => lent.one(|rect, found| raw::enclose(&ohms.0, rect, found)),
@@ -274,6 +252,11 @@ impl Ask {
 fn reading(read: Flagged<Rectangle>) -> Stored {
     let ohms = read.result.map(|side| ohm_bits(side).into());
     Stored::with_flag(vec![read.result.to_vec(), ohms.to_vec()], read.exact.into())
+}
+
+/// One curve or two in a buffer each, with their flag.
+fn curves(curves: &[Curve], exact: bool) -> Stored {
+    Stored::with_flag(curves.iter().map(curve_words).collect(), exact.into())
 }
 
 fn curve_words(curve: &Curve) -> Vec<i64> {
