@@ -88,6 +88,16 @@ enum jusqani_refusal { JUSQANI_REFUSALS(JUSQANI_REFUSED) };
 #define JUSQANI_CARD_LENGTH(n) (11 + 41 * ((n) + 1))
 #define JUSQANI_MAX_SETTINGS 64
 
+/* The highest degree of a curve, and the steps in an ohm. */
+#define JUSQANI_MAX_DEGREE 8
+#define JUSQANI_STEPS_PER_OHM 1024
+
+/* The verdicts of jusqani_search. */
+#define JUSQANI_INSIDE 1
+#define JUSQANI_OUTSIDE 2
+#define JUSQANI_SPENT 3
+#define JUSQANI_UNDECIDED 4
+
 /* What jusqani_choose_setting found. */
 #define JUSQANI_FITS 1
 #define JUSQANI_NONE_FITS 2
@@ -157,7 +167,7 @@ uint64_t jusqani_bounds(uint32_t degree, const int32_t *sides, size_t sides_leng
  * Decides whether the curve stays in a box, by cutting it into pieces none deeper than depth and looking at no more
  * than budget of them. The box is four sides; one that the buffer does not have is out of range, so fewer than four
  * are always a 7. Its low sides lie inside it and its high sides outside: a high side is the first value not allowed.
- * Four numbers are stored in verdict: which verdict (1 Inside, 2 Outside, 3 Spent, 4 Undecided), the depth and the
+ * Four numbers are stored in verdict: which verdict, JUSQANI_INSIDE, _OUTSIDE, _SPENT or _UNDECIDED, the depth and the
  * index of the piece that Outside and Undecided name (0 and 0 for the others), and the number of pieces looked at.
  * Inside says that every load of every curve in the rectangles lies at or above the low sides and strictly below the
  * high sides; Outside, that no load lies in the box on the stretch of its piece, from index / 2^depth to

@@ -5,6 +5,8 @@
 #include <stddef.h>
 #include <stdint.h>
 
+#include "jusqani.h"
+
 /* The exit statuses of a client besides 0. */
 #define REFUSED 1
 #define BAD_USAGE 2
@@ -13,7 +15,7 @@
 /* The bytes of standard input that are taken as the card. */
 #define MAX_CARD 4096
 
-#define STEPS_PER_OHM 1024.0
+#define STEPS_PER_OHM ((double)JUSQANI_STEPS_PER_OHM)
 
 /* The numbers of a curve in front of its sides: its degree and its sum of steps. */
 #define CURVE_HEAD 2

@@ -8,7 +8,7 @@
 #include "common.h"
 #include "jusqani.h"
 
-#define MAX_CURVE JUSQANI_CURVE_LENGTH(8)
+#define MAX_CURVE JUSQANI_CURVE_LENGTH(JUSQANI_MAX_DEGREE)
 #define MAX_SIDES (MAX_CURVE - CURVE_HEAD)
 
 /* What the flag holds before a call; an accepted one stores 0 or 1 there. */
@@ -98,16 +98,21 @@ static void check_sums(void)
     require(raise_with_sum(8, 65535) == 6, "the highest degree is refused before the sum");
 }
 
-/* Values 1, 0, 3 are cut in the middle, and the right piece is handed on twice: to be raised, and to a card. */
+/* Values 1, 0, 3 are cut in the middle, as document 01 does, and the right piece is handed on twice: to be raised, and to
+ * a card. */
 static void check_handing_on(void)
 {
     static const int32_t sides[] = {1, 1, 0, 0, 0, 0, 0, 0, 3, 3, 0, 0};
+    static const int32_t first[] = {2, 2, 1, 1, 0, 0, 0, 1, 0, 0, 0, 2, 0, 0};
+    static const int32_t second[] = {2, 2, 0, 2, 0, 0, 1, 2, 0, 0, 3, 3, 0, 0};
     int32_t left[MAX_CURVE], piece[MAX_CURVE], raised[MAX_CURVE], again[MAX_CURVE];
     uint8_t card[JUSQANI_CARD_LENGTH(2)];
     uint32_t exact;
     const size_t length = JUSQANI_CURVE_LENGTH(2);
     require(jusqani_subdivide(2, 0, sides, 12, 1, 2, left, length, piece, length, &exact) == 0 && piece[1] == 2,
             "a piece has the sum of its parent plus the degree");
+    require(memcmp(left, first, sizeof first) == 0 && memcmp(piece, second, sizeof second) == 0,
+            "the left piece and the right one are those of document 01's example");
     require(jusqani_elevate((uint32_t)piece[0], (uint16_t)piece[1], piece + CURVE_HEAD, length - CURVE_HEAD, raised,
                             MAX_CURVE, &exact) == 0
                 && raised[0] == 3 && raised[1] == 3,

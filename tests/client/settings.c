@@ -12,7 +12,7 @@
 #include "common.h"
 #include "jusqani.h"
 
-#define MAX_CURVE JUSQANI_CURVE_LENGTH(8)
+#define MAX_CURVE JUSQANI_CURVE_LENGTH(JUSQANI_MAX_DEGREE)
 #define MAX_SIDES (MAX_CURVE - CURVE_HEAD)
 #define MAX_CHOICE 6
 
