@@ -66,9 +66,9 @@ pub const FAR_BOXES: [[i64; 4]; 10] = [
     [MAX_SIDE + 1, MAX_SIDE + 2, 0, 1],
 ];
 
-/// Lengths of a list of settings, and those that are refused.
+/// Lengths of a list of settings, and those that are refused, some with a good one in their low bits.
 pub const LISTS: [usize; 8] = [1, 1, 2, 3, 5, 8, MAX_RECORDS - 1, MAX_RECORDS];
-pub const FAR_LISTS: [usize; 6] = [0, MAX_RECORDS + 1, MAX_RECORDS + 2, 128, 256, 320];
+pub const FAR_LISTS: [usize; 7] = [0, MAX_RECORDS + 1, MAX_RECORDS + 2, 128, 256, 320, 65_600];
 
 /// Lengths of a buffer that a refused call is lent.
 pub const LENGTHS: [usize; 8] = [0, 1, 3, 4, 15, 16, 38, 60];

@@ -7,7 +7,7 @@ use crate::model::{
     ohm_bits, ways, Curve, Parameter, Rectangle, MAX_DEGREE, MAX_DEN, MAX_SIDE, SIXTEENTHS,
 };
 use crate::rng::Rng;
-use crate::search::{Effort, MAX_BUDGET, MAX_DEPTH};
+use crate::search::{Effort, MAX_BUDGET, MAX_DEPTH, MAX_RECORDS};
 use jusqani::Setting;
 
 pub fn evaluate(rng: &mut Rng) -> Ask {
@@ -80,12 +80,13 @@ pub fn search(rng: &mut Rng) -> Ask {
 pub fn choose_setting(rng: &mut Rng) -> Ask {
     let (curve, effort) = walk(rng, 6);
     let bounds = bounds_of(&curve);
-    let length = match rng.below(16) {
-        0 => rng.pick(&FAR_LISTS),
+    let length = match rng.below(32) {
+        0 | 1 => rng.pick(&FAR_LISTS),
+        2 => 1 + rng.up_to(MAX_RECORDS - 1),
         _ => rng.pick(&LISTS),
     };
     let fitting = rng.one_in(2);
-    let setting = |k: usize| {
+    let mut setting = |k: usize| {
         let mut limits = limits(rng, &bounds).map(|side| side as i32);
         if fitting && k + 1 < length {
             // Before the last record boxes are beside the curve, so that an index far behind is chosen too.
@@ -96,7 +97,10 @@ pub fn choose_setting(rng: &mut Rng) -> Ask {
             number: rng.draw() as u16,
         }
     };
-    let mut settings: Vec<Setting> = (0..length).map(setting).collect();
+    let mut settings: Vec<Setting> = match length > MAX_RECORDS {
+        true => vec![setting(0); length],
+        false => (0..length).map(setting).collect(),
+    };
     if length > 0 && rng.one_in(12) {
         let record = rng.up_to(length - 1);
         settings[record].limits = rng.pick(&FAR_BOXES).map(|side| side as i32).into();
