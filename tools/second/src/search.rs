@@ -214,7 +214,8 @@ mod tests {
             effort: Effort { depth, budget },
         };
         let chosen = settings.choose(&Curve::new(&[[0; 4], [4, 4, 0, 0]]))?;
-        assert!(chosen.is_none_or(|(index, number)| usize::from(number) == 7 + index));
+        let mut named = chosen.iter();
+        assert!(named.all(|(index, number)| usize::from(*number) == 7 + index));
         Ok(chosen.map(|(index, _)| index))
     }
 
