@@ -1,6 +1,6 @@
 -- Laws of the definitions in specs/.
 pub mod Accepting
-pub mod Degree
+pub mod UpTo
 pub mod Entry
 pub mod Fitting
 pub mod Header

@@ -15,7 +15,7 @@ use Rattle.curve.specs.Curve.{point}
 use Rattle.curve.specs.Refusals.{_orElse_, firstFailing, degreeRefusal, rangeRefusal, orderRefusal, unlessAt}
 use Rattle.card_text.specs.Card.{headerLength, rowLength, cardLength, longestCard, rowAt}
 use Rattle.card_text.specs.Reading.{wellFormed, numberAt, decoded, columnRefusal, lineEndRefusal, endsRefusal, rowRefusal, rowsRefusal, shortRefusal, lengthRefusal, headerRefusal, cardRefusal}
-use Rattle.card_text.proofs.Degree.{degree-at-most}
+use Rattle.card_text.proofs.UpTo.{degree-at-most}
 
 degree-few : (bytes : List ℕ) → decoded bytes .degree ≤ maxDegree
 unfolding decoded

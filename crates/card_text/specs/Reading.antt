@@ -35,10 +35,14 @@ numberOf Malformed = pos 0
 abbrev pub numberAt : List ℕ → ℕ → ℤ
 numberAt bytes at = numberOf (readAt bytes at)
 
+-- a number from 0 to the most, and another in the place of any that is not
+unfoldable pub upTo : ℕ → ℕ → ℤ → ℕ
+upTo most other (pos n) = cond (leb n most) n other
+upTo most other (negsuc n) = other
+
 -- a number as a degree: one above the highest or below 0 becomes 0, so that refusal 1 meets it
-unfoldable pub degreeOf : ℤ → ℕ
-degreeOf (pos n) = cond (leb n maxDegree) n 0
-degreeOf (negsuc n) = 0
+abbrev pub degreeOf : ℤ → ℕ
+degreeOf = upTo maxDegree 0
 
 -- the interval whose columns begin at an offset, and the rectangle whose line does
 unfoldable pub intervalAt : List ℕ → ℕ → Interval

@@ -20,7 +20,8 @@ use read::read_header;
 use read::read_rows;
 use write::write_rows;
 
-// A rectangle's numbers as its line shows them.
+// A number as a degree, and a rectangle's numbers as its line shows them.
+pub use read::degree_of;
 pub use write::sides;
 
 // The answer of read_card.

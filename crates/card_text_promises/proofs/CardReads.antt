@@ -21,7 +21,7 @@ use Rattle.curve.proofs.Points.{point-at}
 use Rattle.card_text.specs.Card.{header, rows, cardOf, headerLength, rowLength, cardLength, rowAt}
 use Rattle.card_text.specs.Reading.{degreeOf, rectAt, decoded, columnRefusal, lineEndRefusal, shortRefusal, lengthRefusal, headerRefusal, rowRefusal, rowsRefusal, cardRefusal, readCard}
 use Rattle.card_text.proofs.Accepting.{or-none, unless-none}
-use Rattle.card_text.proofs.Degree.{degree-of-pos}
+use Rattle.card_text.proofs.UpTo.{degree-of-pos}
 use Rattle.card_text.proofs.Fitting.{header-long, row-long, rows-long, card-long}
 use Rattle.card_text_promises.proofs.LinesRead.{header-read, row-read, each-row, rows-read}
 use Rattle.card_text.proofs.ReadingAnswer.{card-later, read-accepted}

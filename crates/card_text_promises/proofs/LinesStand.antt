@@ -13,7 +13,7 @@ use Rattle.curve.proofs.Points.{point-at}
 use Rattle.curve.proofs.Tests.{or-split}
 use Rattle.card_text.specs.Card.{header, row, rows, cardOf, rowLength, rowAt, headerLength}
 use Rattle.card_text.specs.Reading.{numberAt, degreeOf, intervalAt, rectAt, decoded, columnRefusal, lineEndRefusal, endsRefusal, rowRefusal, rowsRefusal}
-use Rattle.card_text.proofs.Degree.{degree-back}
+use Rattle.card_text.proofs.UpTo.{degree-back}
 use Rattle.card_text.proofs.Entry.{entry-stands, end-stands, columns-none, column-then}
 use Rattle.card_text.proofs.ReadingAnswer.{FirstLine}
 use Rattle.card_text.proofs.Stands.{Stands, stands-none, stands-both, stands-at, stands-sized, stands-is}

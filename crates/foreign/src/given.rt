@@ -1,134 +1,161 @@
-// Rectangles, curves and measurements from the numbers that a caller lends. A side that a slice does not have is out of range.
+// Rectangles, curves and measurements from the numbers that a caller lends. A number that a slice does not have is out of range.
 ghost use mathlib.Core.Path.{_≡_};
 ghost use Prim.Native.Nat.{_+_, _*_, _≤_};
 ghost use lib.ListN.{length};
 ghost use Rattle.curve.specs.Limits.{maxDegree};
 ghost use Rattle.curve.specs.Curve.{pointsOf};
-ghost use Rattle.interface.specs.Numbers.{sideAt, rectAt, curveFrom, ohmsAt, measurementFrom};
-ghost use Rattle.foreign.specs.Inner.{lastPlace};
+ghost use Rattle.card_text.specs.Reading.{degreeOf};
+ghost use Rattle.interface.specs.Numbers.{givenAt, rectAt, sumFrom, curveFrom, ohmsAt, spreadFrom, measurementFrom};
 use crate::results::RECT_LENGTH;
+use crate::results::curve_length;
 use bridge::Measurement;
+use card_text::degree_of;
 use curve::Curve;
 use curve::Interval;
-use curve::MAX_DEGREE;
 use curve::PLACES;
 use curve::Rect;
 use curve::zero_rect;
 
-// What stands for a side that a slice does not have: the first value out of range.
+// What stands for a number that a slice does not have: out of range as a degree, as a sum and as a side.
 const MISSING: i32 = 16777217;
 
-// The side at an index.
-fn side_at(sides: &[i32], k: usize) -> i32
-    ensures { λ r. ⌜ r ≡ sideAt (now (sides .entry)) k ⌝ }
+// The largest sum of steps.
+const MAX_SUM: u16 = 65535;
+
+// Where a curve's sides begin, behind its degree and its sum.
+const HEAD: usize = 2;
+
+// The number at an index.
+fn number_at(numbers: &[i32], k: usize) -> i32
+    ensures { λ r. ⌜ r ≡ givenAt (now (numbers .entry)) k ⌝ }
 {
-    if k < sides.len() { sides[k] } else { MISSING }
+    if k < numbers.len() {
+        numbers[k]
+    } else {
+        MISSING
+    }
 }
 
 // The rectangle whose sides begin at an index, where the slice has all four.
-fn whole_rect_at(sides: &[i32], at: usize) -> Rect
-    requires { ⌜ at + 4 ≤ length (now sides) ⌝ }
-    ensures { λ r. ⌜ r ≡ rectAt (now (sides .entry)) at ⌝ }
+fn whole_rect_at(numbers: &[i32], at: usize) -> Rect
+    requires { ⌜ at + 4 ≤ length (now numbers) ⌝ }
+    ensures { λ r. ⌜ r ≡ rectAt (now (numbers .entry)) at ⌝ }
 {
     Rect {
         resistance: Interval {
-            low: sides[at],
-            high: sides[at + 1],
+            low: numbers[at],
+            high: numbers[at + 1],
         },
         reactance: Interval {
-            low: sides[at + 2],
-            high: sides[at + 3],
+            low: numbers[at + 2],
+            high: numbers[at + 3],
         },
     }
 }
 
 // The same where some may be missing.
-fn short_rect_at(sides: &[i32], at: usize) -> Rect
-    requires { ⌜ at ≤ 4 * maxDegree ⌝ }
-    ensures { λ r. ⌜ r ≡ rectAt (now (sides .entry)) at ⌝ }
+fn short_rect_at(numbers: &[i32], at: usize) -> Rect
+    requires { ⌜ at ≤ 2 + 4 * maxDegree ⌝ }
+    ensures { λ r. ⌜ r ≡ rectAt (now (numbers .entry)) at ⌝ }
 {
     Rect {
         resistance: Interval {
-            low: side_at(sides, at),
-            high: side_at(sides, at + 1),
+            low: number_at(numbers, at),
+            high: number_at(numbers, at + 1),
         },
         reactance: Interval {
-            low: side_at(sides, at + 2),
-            high: side_at(sides, at + 3),
+            low: number_at(numbers, at + 2),
+            high: number_at(numbers, at + 3),
         },
     }
 }
 
 // The same for any slice, at an index that is one of a curve's.
-pub fn rect_at(sides: &[i32], at: usize) -> Rect
-    requires { ⌜ at ≤ 4 * maxDegree ⌝ }
-    ensures { λ r. ⌜ r ≡ rectAt (now (sides .entry)) at ⌝ }
+pub fn rect_at(numbers: &[i32], at: usize) -> Rect
+    requires { ⌜ at ≤ 2 + 4 * maxDegree ⌝ }
+    ensures { λ r. ⌜ r ≡ rectAt (now (numbers .entry)) at ⌝ }
 {
-    if at + RECT_LENGTH <= sides.len() {
-        return whole_rect_at(sides, at);
+    if at + RECT_LENGTH <= numbers.len() {
+        return whole_rect_at(numbers, at);
     }
-    short_rect_at(sides, at)
+    short_rect_at(numbers, at)
 }
 
-// The last place of a record that a curve of this degree fills.
-fn last_place(degree: u32) -> usize
-    ensures { λ r. ⌜ r ≡ lastPlace degree ⌝ }
+// A number as a degree.
+fn degree_from(number: i32) -> u32
+    ensures { λ r. ⌜ r ≡ degreeOf number ⌝ }
 {
-    if degree <= MAX_DEGREE {
-        degree as usize
-    } else {
-        PLACES - 1
-    }
+    degree_of(number as i64)
 }
 
-// The curve of this degree with this sum and these sides.
-pub fn curve_from(degree: u32, sum: u16, sides: &[i32]) -> Curve
-    ensures { λ r. ⌜ r ≡ curveFrom degree sum (now (sides .entry)) ⌝ }
+// A number as a sum of steps.
+fn sum_from(number: i32) -> u16
+    ensures { λ r. ⌜ r ≡ sumFrom number ⌝ }
 {
-    let last = last_place(degree);
+    if 0 <= number && number <= MAX_SUM as i32 {
+        return number as u16;
+    }
+    MAX_SUM
+}
+
+// The rectangles of a curve up to the last one, and zero past it.
+fn points_from(numbers: &[i32], last: usize) -> [Rect; PLACES]
+    requires { ⌜ last ≤ maxDegree ⌝ }
+    ensures { λ r. ⌜ r ≡ pointsOf last (λ k. rectAt (now (numbers .entry)) (2 + 4 * k)) ⌝ }
+{
     let mut points = [zero_rect(); PLACES];
-    points[0] = rect_at(sides, 0);
+    points[0] = rect_at(numbers, HEAD);
     let mut k = 0;
     while k < last {
         k += 1;
-        points[k] = rect_at(sides, RECT_LENGTH * k);
+        points[k] = rect_at(numbers, HEAD + RECT_LENGTH * k);
     }
+    points
+}
+
+// The curve that a slice's numbers give.
+pub fn curve_from(numbers: &[i32]) -> Curve
+    ensures { λ r. ⌜ r ≡ curveFrom (now (numbers .entry)) ⌝ }
+{
+    let degree = degree_from(number_at(numbers, 0));
+    let sum = sum_from(number_at(numbers, 1));
     Curve {
         degree,
         sum,
-        points,
+        points: points_from(numbers, degree as usize),
     }
 }
 
-// The rectangles of a slice that has all their sides, and zero past the last one.
-fn whole_points(sides: &[i32], last: usize) -> [Rect; PLACES]
+// The same of a slice that has all their sides.
+fn whole_points(numbers: &[i32], last: usize) -> [Rect; PLACES]
     requires { ⌜ last ≤ maxDegree ⌝ }
-    requires { ⌜ 4 * (last + 1) ≤ length (now sides) ⌝ }
-    ensures { λ r. ⌜ r ≡ pointsOf last (λ k. rectAt (now (sides .entry)) (4 * k)) ⌝ }
+    requires { ⌜ 2 + 4 * (last + 1) ≤ length (now numbers) ⌝ }
+    ensures { λ r. ⌜ r ≡ pointsOf last (λ k. rectAt (now (numbers .entry)) (2 + 4 * k)) ⌝ }
 {
     let mut points = [zero_rect(); PLACES];
-    points[0] = whole_rect_at(sides, 0);
+    points[0] = whole_rect_at(numbers, HEAD);
     let mut k = 0;
     while k < last {
         k += 1;
-        points[k] = whole_rect_at(sides, RECT_LENGTH * k);
+        points[k] = whole_rect_at(numbers, HEAD + RECT_LENGTH * k);
     }
     points
 }
 
 // The curve of `curve_from`. The slice's length is tested once, so that four sides are copied at a time: faster where the
 // curve is stored before it is looked at, and slower where its sides are used at once.
-pub fn stored_curve_from(degree: u32, sum: u16, sides: &[i32]) -> Curve
-    ensures { λ r. ⌜ r ≡ curveFrom degree sum (now (sides .entry)) ⌝ }
+pub fn stored_curve_from(numbers: &[i32]) -> Curve
+    ensures { λ r. ⌜ r ≡ curveFrom (now (numbers .entry)) ⌝ }
 {
-    let last = last_place(degree);
-    if RECT_LENGTH * (last + 1) > sides.len() {
-        return curve_from(degree, sum, sides);
+    let degree = degree_from(number_at(numbers, 0));
+    if curve_length(degree) > numbers.len() {
+        return curve_from(numbers);
     }
+    let sum = sum_from(number_at(numbers, 1));
     Curve {
         degree,
         sum,
-        points: whole_points(sides, last),
+        points: whole_points(numbers, degree as usize),
     }
 }
 
@@ -137,6 +164,13 @@ fn ohms_at(ohms: &[f32], k: usize) -> f32
     ensures { λ r. ⌜ r ≡ ohmsAt (now (ohms .entry)) k ⌝ }
 {
     if k < ohms.len() { ohms[k] } else { 0.0 / 0.0 }
+}
+
+// The spread, the last of three numbers. A longer slice is no measurement, and its spread not a number.
+fn spread_from(ohms: &[f32]) -> f32
+    ensures { λ r. ⌜ r ≡ spreadFrom (now (ohms .entry)) ⌝ }
+{
+    if ohms.len() == 3 { ohms[2] } else { 0.0 / 0.0 }
 }
 
 // The measurement with these numbers: no carrier, a load, or a load with a spread.
@@ -157,6 +191,6 @@ pub fn measurement_from(ohms: &[f32]) -> Measurement
     Measurement::LoadWithSpread {
         resistance,
         reactance,
-        spread: ohms_at(ohms, 2),
+        spread: spread_from(ohms),
     }
 }

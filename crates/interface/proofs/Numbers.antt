@@ -7,7 +7,7 @@ use native.Mathlib.Decide.{decLt}
 use native.Mathlib.Numerals.{add-one}
 use native.Mathlib.Omega.{arith}
 use lib.IntN.{ℤ}
-use lib.ListN.{length, getD, length-append}
+use lib.ListN.{length, length-append}
 use lib.Seq.{getD-append-add}
 use Rattle.rational.specs.Rounding.{Rounding, down, up}
 use Rattle.curve.specs.declared.Rect.{Rect}
@@ -15,7 +15,7 @@ use Rattle.curve.specs.declared.Curve.{Curve}
 use Rattle.curve.specs.Rect.{Coordinate, resistance, reactance, side, sides}
 use Rattle.curve.specs.Curve.{point}
 use Rattle.curve.proofs.RectSides.{same-sides}
-use Rattle.interface.specs.Numbers.{missing, rectAt, sidesTo, curveNumbers}
+use Rattle.interface.specs.Numbers.{missing, givenAt, rectAt, sidesTo, curveNumbers}
 
 module _ (P : ℕ → Rect) where
   pub sides-length : (m : ℕ) → length (sidesTo m P) ≡ 4 * m
@@ -36,19 +36,23 @@ curve-length c = ap (λ (n : ℕ). suc (suc n)) (sides-length (point c) (c .degr
 pub length-by-degree : (c : Curve) {n : ℕ} → n ≡ 2 + 4 * (c .degree + 1) → n ≡ length (curveNumbers c)
 length-by-degree c e = e ∙ sym (curve-length c)
 
--- a rectangle whose sides stand behind others
+-- a rectangle whose sides stand behind other numbers
+pub rect-behind : (xs zs : List ℤ) (at n : ℕ) → n ≡ length xs + at → rectAt (xs ++ zs) n ≡ rectAt zs at
+unfolding rectAt
+rect-behind xs zs at n e = same-sides sided
+  where
+    here : (k m : ℕ) → m ≡ length xs + k → givenAt (xs ++ zs) m ≡ givenAt zs k
+    here k m f = ap (λ (m : ℕ). givenAt (xs ++ zs) m) f ∙ getD-append-add xs zs k missing
+
+    sided : (x : Coordinate) (r : Rounding) → side x r (rectAt (xs ++ zs) n) ≡ side x r (rectAt zs at)
+    sided resistance down = here at n e
+    sided resistance up = here (at + 1) (n + 1) (omega arith)
+    sided reactance down = here (at + 2) (n + 2) (omega arith)
+    sided reactance up = here (at + 3) (n + 3) (omega arith)
+
 rect-here : (xs : List ℤ) (p : Rect) (more : List ℤ) (at : ℕ) → length xs ≡ at → rectAt (xs ++ (sides p ++ more)) at ≡ p
 unfolding rectAt
-rect-here xs p more at e = same-sides sided
-  where
-    here : (k n : ℕ) → n ≡ length xs + k → getD (xs ++ (sides p ++ more)) n missing ≡ getD (sides p ++ more) k missing
-    here k n f = ap (λ (n : ℕ). getD (xs ++ (sides p ++ more)) n missing) f ∙ getD-append-add xs (sides p ++ more) k missing
-
-    sided : (x : Coordinate) (r : Rounding) → side x r (rectAt (xs ++ (sides p ++ more)) at) ≡ side x r p
-    sided resistance down = here 0 at (omega arith)
-    sided resistance up = here 1 (at + 1) (omega arith)
-    sided reactance down = here 2 (at + 2) (omega arith)
-    sided reactance up = here 3 (at + 3) (omega arith)
+rect-here xs p more at e = rect-behind xs (sides p ++ more) 0 at (omega arith)
 
 -- the sides of rectangles, with anything behind them, are read as these rectangles
 pub rect-back : (P : ℕ → Rect) (m : ℕ) (more : List ℤ) (k : ℕ) → k < m → rectAt (sidesTo m P ++ more) (4 * k) ≡ P k

@@ -1,32 +1,39 @@
 -- The promises of specs/Promises.antt.
 -- Assumes nothing.
-use mathlib.Core.Path.{_≡_, refl, sym, ap, _∙_}
+use mathlib.Core.Path.{_≡_, refl, sym, ap, ap₂, _∙_, subst}
 use mathlib.Core.Bool.{Bool, true, false, cond, _&&_}
-use mathlib.Core.List.{List, _++_}
+use mathlib.Core.List.{List, [], _∷_, _++_}
 use mathlib.Core.Logic.{inl, inr}
-use Prim.Native.Nat.{ℕ, zero, suc, _+_, _*_, _/_, _%_, _<_, _≤_}
+use Prim.Native.Nat.{ℕ, zero, suc, _+_, _*_, _/_, _%_, _-_, _<_, _≤_}
 use native.Mathlib.Nat.{eq-or-lt-of-le}
 use native.Mathlib.Omega.{arith}
-use lib.IntN.{ℤ}
+use lib.IntN.{ℤ, pos}
+use lib.Ieee.{Float, nan}
+use lib.Signed.{leZ}
 use lib.ListN.{length, take, drop, List·getD-eq-default}
 use lib.Seq.{take-at, drop-at}
-use borrow.Author.Tests.{le-leb}
+use borrow.Author.Tests.{ne-eqb, le-leb, lt-leb}
+use Rattle.rational.proofs.Machine.{and-yes}
 use Rattle.curve.specs.declared.Rect.{Rect}
 use Rattle.curve.specs.declared.Curve.{Curve}
 use Rattle.curve.specs.declared.Refusal.{Refusal}
-use Rattle.curve.specs.Limits.{maxDegree}
+use Rattle.curve.specs.Limits.{maxDegree, maxSum}
 use Rattle.curve.specs.Rect.{inRange, sidesInRange, endsInRange}
-use Rattle.curve.specs.Curve.{point}
-use Rattle.curve.specs.Refusals.{none, _orElse_, firstFailing, degreeRefusal, rangeRefusal, orderRefusal, curveRefusal, Accepted}
+use Rattle.curve.specs.Curve.{point, curveOf, SameCurve}
+use Rattle.curve.specs.Refusals.{refusal, none, _orElse_, unlessAt, firstFailing, degreeRefusal, rangeRefusal, orderRefusal, curveRefusal, Accepted}
 use Rattle.curve.specs.Ohms.{ohmsOf}
 use Rattle.curve.proofs.Accepted.{accepted-facts}
 use Rattle.curve.proofs.Places.{points-at}
 use Rattle.curve.proofs.Refused.{or-first}
 use Rattle.curve.proofs.Tests.{or-none, between-holds}
+use Rattle.card_text.specs.Reading.{upTo}
+use Rattle.card_text.proofs.UpTo.{number-above, number-below, number-back, degree-of-pos}
 use Rattle.search.specs.Box.{areLimits, isBox}
+use Rattle.bridge.specs.Value.{finite, isFrom, isLoad}
+use Rattle.bridge.specs.Bridge.{spreadRect, loadRefusal, numberRefusal, sideRefusal, spreadRefusal, answered, enclosed}
 use Rattle.interface.specs.Answer.{word, maxPlace, placeOf, answerOf, after}
-use Rattle.interface.specs.Numbers.{missing, sideAt, rectAt, curveFrom, sidesTo, curveNumbers}
-use Rattle.interface.specs.Promises.{Unpacked, ZeroAnswer, CurveLength, HandedOn, Lacking, ResultNumbers, Kept}
+use Rattle.interface.specs.Numbers.{missing, givenAt, rectAt, curveFrom, ohmsAt, spreadFrom, measurementFrom, sidesTo, curveNumbers}
+use Rattle.interface.specs.Promises.{Unpacked, ZeroAnswer, CurveLength, HandedOn, LargestSum, WrongLength, ResultNumbers, Kept}
 use Rattle.interface.proofs.Lent.{all-kept, value-stored}
 use Rattle.interface.proofs.Numbers as Numbers
 
@@ -59,21 +66,32 @@ curve-length = Numbers.curve-length
 
 pub handed-on : HandedOn
 unfolding curveNumbers curveFrom
-handed-on c more ok =
+handed-on c more ok fits =
     let zs = sidesTo (c .degree + 1) (point c) ++ more in
-    let few = accepted-facts c ok .few in (
-      refl,
-      record {
-        sums = refl;
-        rest = record {
-          degrees = refl;
-          controls = λ k h.
-              sym (Numbers.rect-back (point c) (c .degree + 1) more k (omega arith)) ∙ sym (points-at (c .degree) (λ k. rectAt zs (4 * k)) k (omega arith) h);
-        };
-      },
-    )
+    let few = accepted-facts c ok .few in
+    let f : ℕ → Rect = λ k. rectAt (curveNumbers c ++ more) (2 + 4 * k) in
+    let same : SameCurve c (curveOf (c .degree) (c .sum) f) =
+    record {
+      sums = refl;
+      rest = record {
+        degrees = refl;
+        controls = λ k h.
+            sym (Numbers.rect-back (point c) (c .degree + 1) more k (omega arith))
+            ∙ sym (Numbers.rect-behind (pos (c .degree) ∷ pos (c .sum) ∷ []) zs (4 * k) (2 + 4 * k) refl)
+            ∙ sym (points-at (c .degree) f k (omega arith) h);
+      };
+    } in
+    subst (SameCurve c) (ap₂ (λ (n s : ℕ). curveOf n s f) (sym (degree-of-pos (c .degree) few)) (sym (number-back maxSum maxSum (c .sum) fits))) same
 
--- ---- what lacks a side
+pub largest-sum : LargestSum
+unfolding curveFrom
+largest-sum zs outside = go (leZ (pos 0) (givenAt zs 1)) refl
+  where
+    go : (b : Bool) → leZ (pos 0) (givenAt zs 1) ≡ b → curveFrom zs .sum ≡ maxSum
+    go true low = sym (number-above maxSum maxSum (givenAt zs 1) low (and-yes low ∙ outside))
+    go false low = sym (number-below maxSum maxSum (givenAt zs 1) low)
+
+-- ---- a wrong length
 
 missing-out : inRange missing ≡ false
 unfolding inRange
@@ -89,7 +107,7 @@ false-and b e = ap (λ (a : Bool). a && b) e
 -- the last of four sides is missing wherever one is
 last-out : (zs : List ℤ) (at : ℕ) → length zs < at + 4 → endsInRange (rectAt zs at .reactance) ≡ false
 unfolding endsInRange rectAt
-last-out zs at short = and-false (inRange (sideAt zs (at + 2))) (ap inRange (List·getD-eq-default zs missing {n = at + 3} (omega arith)) ∙ missing-out)
+last-out zs at short = and-false (inRange (givenAt zs (at + 2))) (ap inRange (List·getD-eq-default zs missing {n = at + 3} (omega arith)) ∙ missing-out)
 
 -- a refusal with this number, at this place or before it
 abbrev Before : ℕ → ℕ → Refusal → Type 0
@@ -113,31 +131,63 @@ no-box : (zs : List ℤ) → length zs < 4 → isBox (rectAt zs 0) ≡ false
 unfolding isBox areLimits
 no-box zs short = and-false (areLimits (rectAt zs 0 .resistance)) (false-and _ (last-out zs 0 (omega arith)))
 
-module _ (degree sum : ℕ) (zs : List ℤ) (good : degreeRefusal degree ≡ none) (short : length zs < 4 * (degree + 1)) where
+no-degree : (zs : List ℤ) → length zs ≡ 0 → curveRefusal (curveFrom zs) ≡ refusal 1 0
+unfolding curveRefusal curveFrom upTo
+no-degree [] e = refl
+no-degree (z ∷ zs) e = absurd (omega arith)
+
+module _ (zs : List ℤ) where
   abbrev c : Curve
-  c = curveFrom degree sum zs
+  c = curveFrom zs
 
-  out-of-range : sidesInRange (point c (length zs / 4)) ≡ false
-  unfolding sidesInRange curveFrom
-  out-of-range =
-      let k = length zs / 4 in
-      let few = between-holds degree maxDegree 0 (ap (λ (r : Refusal). r .number) good) .1 in
-      ap sidesInRange (points-at degree (λ k. rectAt zs (4 * k)) k (omega arith) (omega arith))
-      ∙ and-false (endsInRange (rectAt zs (4 * k) .resistance)) (last-out zs (4 * k) (omega arith))
+  module _ (good : degreeRefusal (c .degree) ≡ none) (short : length zs < 2 + 4 * (c .degree + 1)) where
+    -- the first rectangle that lacks a side
+    abbrev lacking : ℕ
+    lacking = (length zs - 2) / 4
 
-  refused : Before 2 (length zs / 4) (rangeRefusal c)
-  unfolding rangeRefusal curveFrom
-  refused = first-failing (λ k. sidesInRange (point c k)) 2 (degree + 1) 0 (length zs / 4) (omega arith) (omega arith) out-of-range
+    out-of-range : sidesInRange (point c lacking) ≡ false
+    unfolding sidesInRange curveFrom
+    out-of-range =
+        let few = between-holds (c .degree) maxDegree 0 (ap (λ (r : Refusal). r .number) good) .1 in
+        ap sidesInRange (points-at (c .degree) (λ k. rectAt zs (2 + 4 * k)) lacking (omega arith) (omega arith))
+        ∙ and-false (endsInRange (rectAt zs (2 + 4 * lacking) .resistance)) (last-out zs (2 + 4 * lacking) (omega arith))
 
-  whole : curveRefusal c ≡ rangeRefusal c
-  unfolding curveRefusal curveFrom
-  whole = or-none (degreeRefusal degree) (rangeRefusal c orElse orderRefusal c) good ∙ sym (or-first (rangeRefusal c) (orderRefusal c) (λ e. let two = refused .0 in absurd (omega arith)))
+    refused : Before 2 lacking (rangeRefusal c)
+    unfolding rangeRefusal curveFrom
+    refused = first-failing (λ k. sidesInRange (point c k)) 2 (c .degree + 1) 0 lacking (omega arith) (omega arith) out-of-range
 
-  lacking-curve : Before 2 (length zs / 4) (curveRefusal c)
-  lacking-curve = rw whole refused
+    whole : curveRefusal c ≡ rangeRefusal c
+    unfolding curveRefusal
+    whole = or-none (degreeRefusal (c .degree)) (rangeRefusal c orElse orderRefusal c) good ∙ sym (or-first (rangeRefusal c) (orderRefusal c) (λ e. let two = refused .0 in absurd (omega arith)))
 
-pub lacking : Lacking
-lacking = record { curve = lacking-curve; box = no-box }
+    no-side : Before 2 lacking (curveRefusal c)
+    no-side = rw whole refused
+
+-- a number that is not one is refused, after whatever was refused before it
+no-load : (r : Bool) (p : Rect) → answered (unlessAt r 13 0 orElse unlessAt false 13 1) p .refusal .number ≡ 13
+no-load true p = refl
+no-load false p = refl
+
+lone-number : (xs : List Float) → length xs ≡ 1 → enclosed (measurementFrom xs) .refusal .number ≡ 13
+unfolding measurementFrom enclosed loadRefusal isFrom finite
+lone-number (x ∷ []) e = no-load (isLoad x) _
+lone-number [] e = absurd (omega arith)
+lone-number (x ∷ y ∷ xs) e = absurd (omega arith)
+
+no-spread : (r x : Bool) (s : Refusal) (p : Rect) →
+    answered (((unlessAt r 13 0 orElse unlessAt x 13 1) orElse unlessAt false 13 2) orElse s) p .refusal .number ≡ 13
+no-spread true true s p = refl
+no-spread true false s p = refl
+no-spread false x s p = refl
+
+many-numbers : (xs : List Float) → 3 < length xs → enclosed (measurementFrom xs) .refusal .number ≡ 13
+unfolding measurementFrom spreadFrom enclosed loadRefusal numberRefusal spreadRefusal isFrom finite
+many-numbers xs many =
+    rw (ne-eqb (length xs) 0 (λ e. absurd (omega arith)), lt-leb (length xs) 2 (omega arith), ne-eqb (length xs) 3 (λ e. absurd (omega arith)))
+    (no-spread (isLoad (ohmsAt xs 0)) (isLoad (ohmsAt xs 1)) (sideRefusal (spreadRect (ohmsAt xs 0) (ohmsAt xs 1) nan)) _)
+
+pub wrong-length : WrongLength
+wrong-length = record { degree = no-degree; side = no-side; box = no-box; lone = lone-number; many = many-numbers }
 
 -- ---- results
 

@@ -10,9 +10,10 @@ use lib.ListN.{length, getD}
 use Rattle.curve.specs.declared.Rect.{Rect}
 use Rattle.curve.specs.declared.Curve.{Curve}
 use Rattle.curve.specs.declared.Ohms.{Ohms}
-use Rattle.curve.specs.Limits.{maxSide}
+use Rattle.curve.specs.Limits.{maxSide, maxSum}
 use Rattle.curve.specs.Curve.{curveOf, point}
 use Rattle.curve.specs.Rect.{sides}
+use Rattle.card_text.specs.Reading.{upTo, degreeOf}
 use Rattle.search.specs.declared.Verdict.{Verdict}
 use Rattle.search.specs.Verdict.{Report, reported}
 use Rattle.settings.specs.declared.Choice.{Choice}
@@ -24,35 +25,43 @@ use Rattle.bridge.specs.declared.Found.the-variants.{Refused, NoCarrier as Carr
 
 -- ---- what a call is given
 
--- what stands for a side that a list does not have: the first value out of range, which every call refuses
+-- what stands for a number that a list does not have: out of range as a degree, as a sum and as a side
 abbrev pub missing : ℤ
 missing = pos (maxSide + 1)
 
--- a side by its index
-abbrev pub sideAt : List ℤ → ℕ → ℤ
-sideAt zs k = getD zs k missing
+-- a number by its index
+abbrev pub givenAt : List ℤ → ℕ → ℤ
+givenAt zs k = getD zs k missing
 
 -- the rectangle whose four sides begin at an index
 unfoldable pub rectAt : List ℤ → ℕ → Rect
 rectAt zs at =
     record {
-      resistance = record { low = sideAt zs at; high = sideAt zs (at + 1) };
-      reactance = record { low = sideAt zs (at + 2); high = sideAt zs (at + 3) };
+      resistance = record { low = givenAt zs at; high = givenAt zs (at + 1) };
+      reactance = record { low = givenAt zs (at + 2); high = givenAt zs (at + 3) };
     }
 
--- the curve of a degree with this sum of steps and these sides, four a rectangle
-unfoldable pub curveFrom : ℕ → ℕ → List ℤ → Curve
-curveFrom degree sum zs = curveOf degree sum (λ k. rectAt zs (4 * k))
+-- a number as a sum of steps: one outside 0 to 65,535 counts as the largest
+abbrev pub sumFrom : ℤ → ℕ
+sumFrom = upTo maxSum maxSum
+
+-- a curve: its degree, its sum of steps, then its sides, four a rectangle
+unfoldable pub curveFrom : List ℤ → Curve
+curveFrom zs = curveOf (degreeOf (givenAt zs 0)) (sumFrom (givenAt zs 1)) (λ k. rectAt zs (2 + 4 * k))
 
 -- the bridge's number at an index; one that the list does not have is not a number, which is refused
 abbrev pub ohmsAt : List Float → ℕ → Float
 ohmsAt xs k = getD xs k nan
 
--- the measurement with these numbers: none are no carrier, up to two a load, more a load with a spread, of which three are read
+-- the spread: the last of three numbers; a longer list is no measurement, and its spread not a number
+unfoldable pub spreadFrom : List Float → Float
+spreadFrom xs = cond (eqb (length xs) 3) (ohmsAt xs 2) nan
+
+-- the measurement with these numbers: none are no carrier, two a load, three a load with a spread
 unfoldable pub measurementFrom : List Float → Measurement
 measurementFrom xs =
     cond (eqb (length xs) 0) NoCarrier
-    (cond (leb (length xs) 2) (Load (ohmsAt xs 0) (ohmsAt xs 1)) (LoadWithSpread (ohmsAt xs 0) (ohmsAt xs 1) (ohmsAt xs 2)))
+    (cond (leb (length xs) 2) (Load (ohmsAt xs 0) (ohmsAt xs 1)) (LoadWithSpread (ohmsAt xs 0) (ohmsAt xs 1) (spreadFrom xs)))
 
 -- ---- what a call gives; a rectangle is its four sides, as on a card
 

@@ -1,18 +1,21 @@
 -- What is promised of the calls from outside beside their equations, over the definitions that their contracts cite.
 -- Assumes nothing.
 use mathlib.Core.Path.{_≡_}
-use mathlib.Core.Bool.{true, false}
+use mathlib.Core.Bool.{true, false, _&&_}
 use mathlib.Core.List.{List, [], _∷_, _++_, map}
-use Prim.Native.Nat.{ℕ, _+_, _*_, _/_, _%_, _^_, _<_, _≤_}
+use Prim.Native.Nat.{ℕ, _+_, _*_, _/_, _%_, _^_, _-_, _<_, _≤_}
 use lib.IntN.{ℤ, pos}
+use lib.Signed.{leZ}
+use lib.Ieee.{Float}
 use lib.ListN.{length, take, drop}
 use Rattle.curve.specs.declared.Rect.{Rect}
 use Rattle.curve.specs.declared.Curve.{Curve}
 use Rattle.curve.specs.declared.Refusal.{Refusal}
+use Rattle.curve.specs.Limits.{maxSum}
 use Rattle.curve.specs.Rect.{sides}
 use Rattle.curve.specs.Curve.{SameCurve}
 use Rattle.curve.specs.Ohms.{ohm, ohmsOf}
-use Rattle.curve.specs.Refusals.{none, _orElse_, degreeRefusal, curveRefusal, Accepted}
+use Rattle.curve.specs.Refusals.{refusal, none, _orElse_, degreeRefusal, curveRefusal, Accepted}
 use Rattle.curve.specs.Calls.{evaluated, subdivided, elevated, bounded}
 use Rattle.sixteenths.specs.Sixteenths.{evaluatedSixteenths}
 use Rattle.card_text.specs.Reading.{readCard}
@@ -25,7 +28,7 @@ use Rattle.settings.specs.declared.Choice.the-variants.{Fits, NoneFits}
 use Rattle.settings.specs.Settings.{chosen}
 use Rattle.bridge.specs.declared.Measurement.{Measurement}
 use Rattle.bridge.specs.Bridge.{enclosed}
-use Rattle.interface.specs.Numbers.{rectAt, curveFrom, curveNumbers, ohmNumbers, flagNumber, verdictNumbers, choiceNumbers}
+use Rattle.interface.specs.Numbers.{givenAt, rectAt, curveFrom, measurementFrom, curveNumbers, ohmNumbers, flagNumber, verdictNumbers, choiceNumbers}
 use Rattle.interface.specs.Answer.{placeOf, answerOf, shorter, after}
 
 -- the number and the place are read off the low and the high 32 bits of an answer
@@ -38,18 +41,22 @@ Unpacked =
 abbrev pub CurveLength : Type 0
 CurveLength = (c : Curve) → length (curveNumbers c) ≡ 2 + 4 * (c .degree + 1)
 
--- a curve that is handed on is the curve that was given: its numbers, with anything behind them, begin with its degree and its sum, and what follows is read as an equal curve
+-- a curve that is handed on is the curve that was given: its numbers, with anything behind them, are read as an equal curve
 abbrev pub HandedOn : Type 0
-HandedOn =
-    (c : Curve) (more : List ℤ) → Accepted c →
-    let numbers = curveNumbers c ++ more in
-    (take 2 numbers ≡ pos (c .degree) ∷ pos (c .sum) ∷ []) × SameCurve c (curveFrom (c .degree) (c .sum) (drop 2 numbers))
+HandedOn = (c : Curve) (more : List ℤ) → Accepted c → c .sum ≤ maxSum → SameCurve c (curveFrom (curveNumbers c ++ more))
 
--- what lacks a side is refused: a curve with 2, at the first rectangle that lacks one or before it, and a box, which is then none
-pub record Lacking : Type 0 where
-  pub curve : (degree sum : ℕ) (zs : List ℤ) → degreeRefusal degree ≡ none → length zs < 4 * (degree + 1) →
-      (curveRefusal (curveFrom degree sum zs) .number ≡ 2) × (curveRefusal (curveFrom degree sum zs) .place ≤ length zs / 4)
+-- a sum of steps outside 0 to 65,535 counts as the largest
+abbrev pub LargestSum : Type 0
+LargestSum = (zs : List ℤ) → (leZ (pos 0) (givenAt zs 1) && leZ (givenAt zs 1) (pos maxSum)) ≡ false → curveFrom zs .sum ≡ maxSum
+
+-- a wrong length is refused: a curve without a degree with 1; one that lacks a side with 2, at the first rectangle that lacks one or before it; a box that lacks one, which is then none, with 7; and a measurement of one number or of more than three with 13
+pub record WrongLength : Type 0 where
+  pub degree : (zs : List ℤ) → length zs ≡ 0 → curveRefusal (curveFrom zs) ≡ refusal 1 0
+  pub side : (zs : List ℤ) → let n = curveFrom zs .degree in degreeRefusal n ≡ none → length zs < 2 + 4 * (n + 1) →
+      (curveRefusal (curveFrom zs) .number ≡ 2) × (curveRefusal (curveFrom zs) .place ≤ (length zs - 2) / 4)
   pub box : (zs : List ℤ) → length zs < 4 → isBox (rectAt zs 0) ≡ false
+  pub lone : (xs : List Float) → length xs ≡ 1 → enclosed (measurementFrom xs) .refusal .number ≡ 13
+  pub many : (xs : List Float) → 3 < length xs → enclosed (measurementFrom xs) .refusal .number ≡ 13
 
 -- what the numbers of a result are: the ohms stand in the order of the sides, and the values of each verdict and choice in the order of the header
 pub record ResultNumbers : Type 0 where

@@ -19,11 +19,11 @@ use Rattle.search.specs.declared.visit.Visit.the-variants.{Exhausted, Co
 use Rattle.search.specs.Box.{inBox, apartFrom}
 use Rattle.search.specs.Verdict.{reported, inside}
 use Rattle.search.specs.Walk.{goesOn, countOf, looked, noted, after, visitAt, walked}
-use Rattle.search.specs.Search.{searchRefusal, endsInside}
+use Rattle.search.specs.Search.{endsInside}
 use Rattle.search.specs.Inner.{insideCount, TellsInside}
 use Rattle.search.proofs.Visits.{Going, clear, marked, Looks, Within, Separate, Crossing, Rules, walk-keeps, visit-exhausted, visit-contained, visit-apart, visit-across, walked-by, further, further-limit, further-halves}
 use Rattle.search.proofs.Counts.{looked-count, walked-budget}
-use Rattle.search.proofs.Accepted.{Facts, searched-accepted, searched-refused}
+use Rattle.search.proofs.Accepted.{Facts, searched-accepted}
 
 -- ---- verdicts
 
@@ -151,10 +151,6 @@ module _ (box : Rect) (budget : ℕ) where
 -- ---- whether a walk ends Inside
 
 module _ (c : Curve) (box : Rect) (depth budget : ℕ) where
-  pub ends-refused : eqb (searchRefusal c box depth budget .number) 0 ≡ false → endsInside c box depth budget ≡ false
-  unfolding endsInside
-  ends-refused h = ap (λ (a : SearchAnswer). eqb (reported (a .verdict) .number) inside) (searched-refused c box depth budget h)
-
   pub ends-by-walk : Facts c box depth budget → endsInside c box depth budget ≡ eqb (reported (walked box budget depth c 0 0 (Inside 0)) .number) inside
   unfolding endsInside
   ends-by-walk f = ap (λ (a : SearchAnswer). eqb (reported (a .verdict) .number) inside) (searched-accepted c box depth budget f)

@@ -1,12 +1,12 @@
 // Whether a walk ends Inside, told as soon as it is known: a piece that is apart, noted or beyond the budget ends this walk.
 ghost use mathlib.Core.Path.{_≡_};
 ghost use Prim.Native.Nat.{_≤_};
+ghost use Rattle.curve.specs.Refusals.{none};
 ghost use Rattle.search.specs.Limits.{maxBudget};
-ghost use Rattle.search.specs.Search.{endsInside};
+ghost use Rattle.search.specs.Search.{searchRefusal, endsInside};
 ghost use Rattle.search.specs.Inner.{TellsInside};
 use crate::boxes::apart_from;
 use crate::boxes::in_box;
-use crate::search_refusal;
 use curve::Curve;
 use curve::Rect;
 
@@ -39,12 +39,10 @@ fn inside_count(piece: Curve, limits: Rect, budget: u32, below: u32, before: u32
     inside_count(right, limits, budget, below - 1, half)
 }
 
-// Whether every load of the curve lies in the box, as the walk with this depth and budget tells: it ends Inside. A refused walk does not.
+// Whether every load of the curve lies in the box, as a walk with this depth and budget that is not refused tells: it ends Inside.
 pub fn ends_inside(c: Curve, limits: Rect, depth: u32, budget: u32) -> bool
+    requires { ⌜ searchRefusal c limits depth budget ≡ none ⌝ }
     ensures { λ r. ⌜ r ≡ endsInside c limits depth budget ⌝ }
 {
-    if search_refusal(c, limits, depth, budget).number != 0 {
-        return false;
-    }
     inside_count(c, limits, budget, depth, 0) != 0
 }

@@ -2,11 +2,13 @@
 -- Assumes nothing.
 use mathlib.Core.Path.{_≡_}
 use mathlib.Core.Logic.{⊎-elim}
+use native.Mathlib.Omega.{arith}
 use borrow.Author.Needs.{needs}
 use mir.Syntax.{w64}
 use mir.Val.{toZ, ofZ}
 use mir.ValLaws.{toZ-ofZ}
-use Rattle.card_text.proofs.Degree.{degree-in, degree-low, degree-high, degree-fits}
+use Rattle.curve.specs.Limits.{maxDegree}
+use Rattle.card_text.proofs.UpTo.{number-in, number-below, number-above, number-fits}
 use Rattle.card_text.proofs.read.degree_of.Statement.{statement}
 use Rattle.card_text.proofs.read.degree_of.Tie as tie
 
@@ -20,18 +22,19 @@ cast-if2 c = search needs
 cast-result : tie.Need-cast-result
 cast-result c =
     let e = value (c .before .before) in
-    rw e (degree-fits (c .before .before .args .value) (rw e at (c .before .if1 .taken)) (rw e at (c .if2 .taken)))
+    let (natural, few) = number-fits maxDegree 0 (c .before .before .args .value) (rw e at (c .before .if1 .taken)) (rw e at (c .if2 .taken)) in
+    rw e (natural, record { fits = omega arith })
 
 returns : tie.Need-returns
 returns c =
     let e = value (c .before .before) in
-    rw e (degree-in (c .before .before .args .value) (rw e at (c .before .if1 .taken)) (rw e at (c .if2 .taken)))
+    rw e (number-in maxDegree 0 (c .before .before .args .value) (rw e at (c .before .if1 .taken)) (rw e at (c .if2 .taken)))
 
 returns-2 : tie.Need-returns-2
 returns-2 c =
     let z = c .before .args .value in
     let e = value (c .before) in
-    ⊎-elim (λ w. degree-high z (rw e at (w .0 .taken)) (rw e at (w .1 .left))) (λ w. degree-low z (rw e at (w .left))) (c .if1 .came)
+    ⊎-elim (λ w. number-above maxDegree 0 z (rw e at (w .0 .taken)) (rw e at (w .1 .left))) (λ w. number-below maxDegree 0 z (rw e at (w .left))) (c .if1 .came)
 
 pub degree-of-spec : {M : Type 1} → statement M
 degree-of-spec = tie.close (tie.spec cast-if2 cast-result returns returns-2)

@@ -23,7 +23,7 @@ unfolding measurementFrom
 returns-3 c =
     let a = c .before .before .before .before .before .before .args in
     let n = length (a .ohms .now) in
-    rw (ne-eqb n 0 (c .before .before .before .before .if1 .left), lt-leb n 2 (c .before .if2 .left), c .before .before .before .ohms-at .ensures, c .before .before .ohms-at2 .ensures, c .ohms-at3 .ensures)
+    rw (ne-eqb n 0 (c .before .before .before .before .if1 .left), lt-leb n 2 (c .before .if2 .left), c .before .before .before .ohms-at .ensures, c .before .before .ohms-at2 .ensures, c .spread-from .ensures)
 
 pub measurement-from-spec : {M : Type 1} → statement M
 measurement-from-spec =

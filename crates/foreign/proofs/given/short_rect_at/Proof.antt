@@ -9,10 +9,10 @@ use Rattle.foreign.proofs.given.short_rect_at.Tie as tie
 returns : tie.Need-returns
 unfolding rectAt
 returns c =
-    let rlow = c .before .before .before .side-at in
-    let rhigh = c .before .before .side-at2 in
-    let xlow = c .before .side-at3 in
-    let xhigh = c .side-at4 in
+    let rlow = c .before .before .before .number-at in
+    let rhigh = c .before .before .number-at2 in
+    let xlow = c .before .number-at3 in
+    let xhigh = c .number-at4 in
     rw (
       told (rlow .result) (rlow .ok),
       told (rhigh .result) (rhigh .ok),

@@ -14,27 +14,30 @@ use Rattle.interface.specs.Numbers.{rectAt}
 use Rattle.foreign.proofs.given.whole_points.Statement.{statement}
 use Rattle.foreign.proofs.given.whole_points.Tie as tie
 
--- the rectangles of some sides
+-- the rectangles of some numbers
 abbrev rects : List ℤ → ℕ → Rect
-rects sides k = rectAt sides (4 * k)
+rects numbers k = rectAt numbers (2 + 4 * k)
 
 abbrev Inv-loop : tie.InvT-loop
-Inv-loop sides last points₀ k₀ points k = (k ≤ last) × (points ≡ pointsOf k (rects sides))
+Inv-loop numbers last points₀ k₀ points k = (k ≤ last) × (points ≡ pointsOf k (rects numbers))
 
 abbrev μ-loop : tie.MeasureT-loop
-μ-loop sides last points₀ k₀ points k = last - k
+μ-loop numbers last points₀ k₀ points k = last - k
 
 whole-rect-at-requires : tie.Need-whole-rect-at-requires Inv-loop μ-loop
 whole-rect-at-requires c κs = let room = c .before .pre .1 in omega arith
 
 loop-holds : tie.Need-loop-holds Inv-loop μ-loop
-loop-holds c = (omega arith, rw (c .before .zero-rect .ensures, c .whole-rect-at .ensures) (points-first (rects (c .before .before .args .sides .now))))
+loop-holds c = (omega arith, rw (c .before .zero-rect .ensures, c .whole-rect-at .ensures) (points-first (rects (c .before .before .args .numbers .now))))
 
 add-k : tie.Need-add-k Inv-loop μ-loop
 add-k c = let few = c .before .before .before .before .pre .0 in record { fits = omega arith }
 
 mul-whole-rect-at : tie.Need-mul-whole-rect-at Inv-loop μ-loop
 mul-whole-rect-at c = let few = c .before .before .before .before .pre .0 in record { fits = omega arith }
+
+add-whole-rect-at : tie.Need-add-whole-rect-at Inv-loop μ-loop
+add-whole-rect-at c = let few = c .before .before .before .before .pre .0 in record { fits = omega arith }
 
 whole-rect-at-requires-2 : tie.Need-whole-rect-at-requires-2 Inv-loop μ-loop
 whole-rect-at-requires-2 c κs = let room = c .before .before .before .before .pre .1 in omega arith
@@ -52,7 +55,7 @@ loop-again : tie.Need-loop-again Inv-loop μ-loop
 loop-again c =
     let l = c .before .before in
     let few = l .before .before .before .pre .0 in
-    let f = rects (l .before .before .before .args .sides .now) in
+    let f = rects (l .before .before .before .args .numbers .now) in
     (omega arith, ap₂ (λ (x : List Rect) (v : Rect). set x (l .loop .k + 1) v) (l .loop .inv .1) (c .whole-rect-at2 .ensures) ∙ points-next (l .loop .k) f (omega arith))
 
 returns : tie.Need-returns Inv-loop μ-loop
@@ -60,7 +63,7 @@ returns c =
     let l = c .before in
     let a = l .before .before .before .args in
     let done : l .loop .k ≡ a .last = omega arith in
-    l .loop .inv .1 ∙ ap (λ (k : ℕ). pointsOf k (rects (a .sides .now))) done
+    l .loop .inv .1 ∙ ap (λ (k : ℕ). pointsOf k (rects (a .numbers .now))) done
 
 pub whole-points-spec : {M : Type 1} → statement M
 whole-points-spec =
@@ -74,6 +77,7 @@ whole-points-spec =
     loop-holds
     add-k
     mul-whole-rect-at
+    add-whole-rect-at
     whole-rect-at-requires-2
     mul-points
     array-set-from-points-2

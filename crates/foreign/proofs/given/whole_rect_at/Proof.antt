@@ -4,7 +4,7 @@ use Prim.Native.Nat.{_+_}
 use native.Mathlib.Omega.{arith}
 use borrow.Author.Needs.{needs}
 use Rattle.interface.specs.Numbers.{rectAt}
-use Rattle.foreign.proofs.Numbers.{side-had}
+use Rattle.foreign.proofs.Numbers.{number-had}
 use Rattle.foreign.proofs.given.whole_rect_at.Statement.{statement}
 use Rattle.foreign.proofs.given.whole_rect_at.Tie as tie
 
@@ -14,7 +14,7 @@ returns c =
     let first = c .before .before .before in
     let a = first .before .args in
     let room = first .before .pre in
-    let had = side-had (a .sides .now) in
+    let had = number-had (a .numbers .now) in
     rw (
       had (a .at) (omega arith) (first .t5 .given),
       had (a .at + 1) (omega arith) (c .before .before .t9 .given),

@@ -36,9 +36,12 @@ returns-2 c =
     let a = first .before .before .args in
     sym (look-apart (a .c) (a .s .limits) (a .depth) (a .budget) (facts first) (span-in first ∙ c .before .before .if1 .left) (span-apart (c .before) ∙ c .if2 .taken))
 
+ends-inside-requires : tie.Need-ends-inside-requires
+ends-inside-requires c κs = c .before .before .before .before .before .pre .accepted
+
 returns-3 : tie.Need-returns-3
 unfolding fits
 returns-3 c = c .ends-inside .ensures
 
 pub fits-spec : {M : Type 1} → statement M
-fits-spec = tie.close (tie.spec (λ c κs. search needs) returns (λ c κs. search needs) returns-2 (λ c κs. search needs) returns-3)
+fits-spec = tie.close (tie.spec (λ c κs. search needs) returns (λ c κs. search needs) returns-2 ends-inside-requires returns-3)
