@@ -1,50 +1,70 @@
 /*
- * Interval Bézier curves of an antenna's load, for firmware in C. Every call is proved: the contracts are in
- * crates/foreign (specs/Calls.antt) and crates/panel (specs/Panel.antt).
+ * Interval Bézier curves of an antenna's load, for firmware in C and C++. Every call is proved: the contracts are in
+ * crates/foreign (specs/Calls.antt) and crates/panel (specs/Panel.antt). tests/client/tuner.c is a small program that
+ * goes from measured ohms to a relay setting.
  *
- * A side is a whole number of steps of 1/1,024 ohm. A rectangle is four sides: resistance low, resistance high,
- * reactance low, reactance high.
+ * Curves. A side is a whole number of steps of 1/1,024 ohm. A rectangle is four sides: resistance low, resistance high,
+ * reactance low, reactance high. A curve is one buffer, in and out: curve[0] is its degree n, curve[1] its sum of steps,
+ * and four sides for each of the rectangles 0 to n follow. What a call gives is handed to the next as it is, with its
+ * own length or that of the whole buffer, since numbers past rectangle n are not read. A buffer without any number has
+ * no degree, and a side that the buffer lacks is out of range.
  *
- * A curve that a call is given is its degree n, its sum of steps and its sides, four for each of the rectangles 0 to n.
- * A side that the buffer does not have is out of range, and sides past rectangle n are not read. A call without a
- * parameter sum never looks at the sum. A curve that a call gives is JUSQANI_CURVE_LENGTH(n) numbers: its degree, its
- * sum, then its sides; so `curve[0]`, `curve[1]`, `curve + 2` and JUSQANI_CURVE_LENGTH(n) - 2 hand it to the next call.
- *
- * The sum of steps, 0 to 65,535, tells how far the roundings may have moved a curve's sides. Reading a card sets it to
- * 0, and a curve of the caller's own rectangles begins with 0; a cut puts the curve's sum plus its degree in both
+ * Sums. The sum of steps, 0 to 65,535, tells how far the roundings may have moved a curve's sides. Reading a card sets
+ * it to 0, and a curve of the caller's own rectangles begins with 0; a cut puts the curve's sum plus its degree in both
  * pieces; a raising adds 1. For any curve reached from a curve with the sum 0 by our cuts and raisings, no side is
  * farther out than the same steps without rounding give by more than that sum, and none lies short; and no side that
  * jusqani_evaluate or jusqani_evaluate_sixteenths then gives lies farther out than the exact side of the first curve by
- * more steps than the sum plus the degree, and none lies short. A card is written without the sum: a piece that is
- * written and read again is equal but for its sum, which is 0, and counts from its own rectangles. C cuts a larger
- * number that is handed over as a uint16_t to its low 16 bits without a word.
+ * more steps than the sum plus the degree, and none lies short. A number that is no sum counts as 65,535. The calls
+ * that can refuse with 17 look at the sum, and no others. A card has none: a piece that is written and read again is
+ * equal but for its sum, which is 0, and counts from its own rectangles.
  *
- * A call that answers a uint64_t answers 0 on success. Any other answer is a refusal: JUSQANI_NUMBER(answer) says what
- * was refused and JUSQANI_PLACE(answer) where. JUSQANI_REFUSALS below lists all of them.
+ * Answers. A call answers 0 on success. Any other answer is a refusal: JUSQANI_NUMBER(answer) says what was refused and
+ * JUSQANI_PLACE(answer) where. A call tries its refusals in the order in which its comment lists them. A refused call
+ * changes nothing. One that is not refused stores its result in front of each buffer lent for it, and what lies past
+ * the result keeps its contents. A 12 is about the first of these buffers, in the order of the parameters, that is too
+ * short.
  *
- * A call tries them in the order in which its paragraph lists them, 12 last. A refused call changes no buffer. A call
- * that is not refused stores its result in front of each buffer that it is lent for it, and what lies past the result
- * keeps its contents.
+ * Exactness. *exact becomes 1 where every side that the call gives is the exact one of the curve that it was given,
+ * whatever the calls before it rounded, and 0 where some side is not.
  *
- * A call with a pointer exact also tells whether it rounded: *exact becomes 1 where every affine map that it made, of
- * low and high sides in both coordinates, left no remainder, and 0 where some map was rounded. 1 says that the sides
- * are the exact ones of the curve that the call was given, whatever the calls before it rounded; 0 says that some side
- * that the call gave is not the exact one. Equal fractions num/den give equal flags. jusqani_evaluate_sixteenths makes
- * no maps; its flag is that of its four divisions, one for each side, and says the same. A refused call leaves *exact
- * as it was, so look at the answer first.
+ * Buffers. The caller provides valid buffers of the stated lengths, in numbers of their type (bytes, settings) and
+ * aligned as that type is. One that a call writes, *exact and *found too, overlaps no other. A pointer may be null where
+ * its length is 0; exact and found are never null.
  *
- * The caller provides valid buffers of the stated lengths; one that a call writes, *exact and *found too, overlaps no
- * other. A pointer must not be null, also where its length is 0. The calls keep no pointer and always return.
+ * Running. A call always returns, keeps no pointer, and has no data of its own that is written. So calls may run at
+ * once, on several threads or in an interrupt, where none writes a buffer that another uses.
+ *
+ * Linking. Each call is in a section of its own: with -Wl,--gc-sections a program has the code of the calls that it
+ * makes, and no other's. The symbol of a call ends in JUSQANI_VERSION, so that a program compiled with the header of
+ * another version does not link; it would hand over other arguments than the library takes.
  */
 #ifndef JUSQANI_H
 #define JUSQANI_H
 
-#include <stddef.h>
 #include <stdint.h>
 
 #ifdef __cplusplus
 extern "C" {
 #endif
+
+#define JUSQANI_VERSION 2
+
+#define JUSQANI_PASTE(name, version) name##_v##version
+#define JUSQANI_NAME(name, version) JUSQANI_PASTE(name, version)
+#define jusqani_evaluate JUSQANI_NAME(jusqani_evaluate, JUSQANI_VERSION)
+#define jusqani_evaluate_sixteenths JUSQANI_NAME(jusqani_evaluate_sixteenths, JUSQANI_VERSION)
+#define jusqani_subdivide JUSQANI_NAME(jusqani_subdivide, JUSQANI_VERSION)
+#define jusqani_elevate JUSQANI_NAME(jusqani_elevate, JUSQANI_VERSION)
+#define jusqani_bounds JUSQANI_NAME(jusqani_bounds, JUSQANI_VERSION)
+#define jusqani_search JUSQANI_NAME(jusqani_search, JUSQANI_VERSION)
+#define jusqani_choose_setting JUSQANI_NAME(jusqani_choose_setting, JUSQANI_VERSION)
+#define jusqani_enclose JUSQANI_NAME(jusqani_enclose, JUSQANI_VERSION)
+#define jusqani_read_card JUSQANI_NAME(jusqani_read_card, JUSQANI_VERSION)
+#define jusqani_write_card JUSQANI_NAME(jusqani_write_card, JUSQANI_VERSION)
+#define jusqani_panel JUSQANI_NAME(jusqani_panel, JUSQANI_VERSION)
+
+/* A buffer's length. It has 64 bits on every processor, as in the proofs. */
+typedef uint64_t jusqani_length;
 
 /* A refusal's number and its place, off an answer. */
 #define JUSQANI_NUMBER(answer) ((uint32_t)((answer) & 0xffffffffu))
@@ -79,18 +99,38 @@ extern "C" {
 enum jusqani_refusal { JUSQANI_REFUSALS(JUSQANI_REFUSED) };
 #undef JUSQANI_REFUSED
 
-/* The numbers of a rectangle, of a curve of degree n, of a verdict and of a choice; the bytes of the card of a curve of
- * degree n; the most records of a list of settings. */
-#define JUSQANI_RECT_LENGTH 4
-#define JUSQANI_CURVE_LENGTH(n) (2 + 4 * ((n) + 1))
-#define JUSQANI_VERDICT_LENGTH 4
-#define JUSQANI_CHOICE_LENGTH 3
-#define JUSQANI_CARD_LENGTH(n) (11 + 41 * ((n) + 1))
-#define JUSQANI_MAX_SETTINGS 64
+/*
+ * The most bytes of stack that each call took on x86-64, X(call, bytes) for each: from the caller's frame down, with
+ * memcpy's, the walks of search and choose_setting at their greatest depth. tests/client/stack.c measures them and
+ * fails where one takes more. Other processors differ.
+ */
+#define JUSQANI_STACK(X) \
+    X(panel, 784) \
+    X(evaluate, 556) \
+    X(evaluate_sixteenths, 480) \
+    X(subdivide, 1352) \
+    X(elevate, 584) \
+    X(bounds, 600) \
+    X(search, 11672) \
+    X(choose_setting, 8200) \
+    X(enclose, 40) \
+    X(read_card, 800) \
+    X(write_card, 384)
 
-/* The highest degree of a curve, and the steps in an ohm. */
+/* The highest degree of a curve, the steps in an ohm, and the most records of a list of settings. */
 #define JUSQANI_MAX_DEGREE 8
 #define JUSQANI_STEPS_PER_OHM 1024
+#define JUSQANI_MAX_SETTINGS 64
+
+/* The numbers of a rectangle, of a verdict and of a choice. */
+#define JUSQANI_RECT_LENGTH 4
+#define JUSQANI_VERDICT_LENGTH 4
+#define JUSQANI_CHOICE_LENGTH 3
+
+/* The index in a curve at which rectangle k begins; the numbers of a curve of degree n, and the bytes of its card. */
+#define JUSQANI_RECT_AT(k) (2 + 4 * (jusqani_length)(k))
+#define JUSQANI_CURVE_LENGTH(n) JUSQANI_RECT_AT((n) + 1)
+#define JUSQANI_CARD_LENGTH(n) (11 + 41 * (jusqani_length)((n) + 1))
 
 /* The verdicts of jusqani_search. */
 #define JUSQANI_INSIDE 1
@@ -117,118 +157,89 @@ struct jusqani_setting {
 };
 
 /*
- * Evaluates the curve at num/den. The load's four sides are stored in load, and the same in ohms, with nothing lost,
- * in ohms; *exact tells whether no map of any stage was rounded. Refusals 1, 2, 3, 4, 5 and 12: either buffer is
- * shorter than 4. A refusal changes neither buffer nor *exact, and both buffers keep what lies past the first four
- * numbers.
+ * Evaluates the curve at num/den, rounding at every stage. The load's four sides are stored in load, and the same in
+ * ohms, with nothing lost, in ohms. Refusals 1, 2, 3, 4, 5, 12.
  */
-uint64_t jusqani_evaluate(uint32_t degree, const int32_t *sides, size_t sides_length, uint32_t num, uint32_t den,
-                          int32_t *load, size_t load_length, float *ohms, size_t ohms_length, uint32_t *exact);
+uint64_t jusqani_evaluate(const int32_t *curve, jusqani_length curve_length, uint32_t num, uint32_t den, int32_t *load,
+                          jusqani_length load_length, float *ohms, jusqani_length ohms_length, uint32_t *exact);
 
 /*
- * Evaluates the curve at j/16, for j from 0 to 16, and rounds once: the Bernstein sum of the rectangles' sides, with
- * the weights (n choose k) (16 - j)^(n - k) j^k, is divided by 16^n, a low side rounded down and a high side up. So no
- * side lies a whole step from the exact one, and the load lies inside the one that jusqani_evaluate gives at j/16,
- * which rounds every stage. It is stored in load and ohms as there. *exact becomes 1 where no division left a
- * remainder, so that all sides are the exact ones, and 0 where one did. Refusals 1, 2, 3, 15 and 12: either
- * buffer is shorter than 4. A refusal changes neither buffer nor *exact, and both buffers keep what lies past the first
- * four numbers.
+ * Evaluates the curve at j/16, j from 0 to 16, by the Bernstein sum, and rounds once, a low side down and a high side
+ * up: no side lies a whole step from the exact one, and the load lies inside the one that jusqani_evaluate gives there.
+ * It is stored as there. Refusals 1, 2, 3, 15, 12.
  */
-uint64_t jusqani_evaluate_sixteenths(uint32_t degree, const int32_t *sides, size_t sides_length, uint32_t j,
-                                     int32_t *load, size_t load_length, float *ohms, size_t ohms_length,
+uint64_t jusqani_evaluate_sixteenths(const int32_t *curve, jusqani_length curve_length, uint32_t j, int32_t *load,
+                                     jusqani_length load_length, float *ohms, jusqani_length ohms_length,
                                      uint32_t *exact);
 
 /*
- * Subdivides the curve at num/den. The piece up to num/den is stored in left and the piece from there on in right,
- * each a curve of the same degree with the sum sum + degree; *exact is that of jusqani_evaluate at num/den. Refusals 1,
- * 2, 3, 4, 5, 17: sum + degree is above 65,535, and 12: either buffer is shorter than JUSQANI_CURVE_LENGTH(degree). A
- * refusal changes neither buffer nor *exact, and both buffers keep what lies past the piece.
+ * Cuts the curve at num/den. The piece up to there is stored in left and the piece from there on in right, each a curve
+ * of the same degree; *exact is that of jusqani_evaluate there. Refusals 1, 2, 3, 4, 5, 17, 12.
  */
-uint64_t jusqani_subdivide(uint32_t degree, uint16_t sum, const int32_t *sides, size_t sides_length, uint32_t num,
-                           uint32_t den, int32_t *left, size_t left_length, int32_t *right, size_t right_length,
-                           uint32_t *exact);
+uint64_t jusqani_subdivide(const int32_t *curve, jusqani_length curve_length, uint32_t num, uint32_t den, int32_t *left,
+                           jusqani_length left_length, int32_t *right, jusqani_length right_length, uint32_t *exact);
 
-/*
- * Raises the degree by one: the curve of degree + 1 with the sum sum + 1 is stored in raised; *exact tells whether none
- * of its rectangles was rounded. Refusals 1, 2, 3, 6, 17: sum is 65,535, and 12: raised is shorter than
- * JUSQANI_CURVE_LENGTH(degree + 1). A refusal changes nothing, and raised keeps what lies past the curve.
- */
-uint64_t jusqani_elevate(uint32_t degree, uint16_t sum, const int32_t *sides, size_t sides_length, int32_t *raised,
-                         size_t raised_length, uint32_t *exact);
+/* Raises the curve's degree by one: the raised curve is stored in raised. Refusals 1, 2, 3, 6, 17, 12. */
+uint64_t jusqani_elevate(const int32_t *curve, jusqani_length curve_length, int32_t *raised,
+                         jusqani_length raised_length, uint32_t *exact);
 
-/*
- * Bounds the curve: the four sides of the least rectangle that holds all of its rectangles are stored in rect.
- * Refusals 1, 2, 3 and 12: rect is shorter than 4. A refusal changes nothing, and rect keeps what lies past the
- * first four numbers.
- */
-uint64_t jusqani_bounds(uint32_t degree, const int32_t *sides, size_t sides_length, int32_t *rect, size_t rect_length);
+/* Bounds the curve: the least rectangle that holds all of its rectangles is stored in rect. Refusals 1, 2, 3, 12. */
+uint64_t jusqani_bounds(const int32_t *curve, jusqani_length curve_length, int32_t *rect, jusqani_length rect_length);
 
 /*
  * Decides whether the curve stays in a box, by cutting it into pieces none deeper than depth and looking at no more
- * than budget of them. The box is four sides; one that the buffer does not have is out of range, so fewer than four
- * are always a 7. Its low sides lie inside it and its high sides outside: a high side is the first value not allowed.
- * Four numbers are stored in verdict: which verdict, JUSQANI_INSIDE, _OUTSIDE, _SPENT or _UNDECIDED, the depth and the
- * index of the piece that Outside and Undecided name (0 and 0 for the others), and the number of pieces looked at.
- * Inside says that every load of every curve in the rectangles lies at or above the low sides and strictly below the
- * high sides; Outside, that no load lies in the box on the stretch of its piece, from index / 2^depth to
- * (index + 1) / 2^depth, both ends included. Refusals 1, 2, 3, 7, 8, 9, 17: sum + depth * degree is above 65,535, so
- * that a piece at that depth would have no sum, and 12: verdict is shorter than 4. A refusal changes nothing, and
- * verdict keeps what lies past the four.
+ * than budget of them. The box is four sides, as those of a setting; one that limits lacks is out of range. Four
+ * numbers are stored in verdict: JUSQANI_INSIDE, _OUTSIDE, _SPENT or _UNDECIDED, the depth and the index of the piece
+ * that Outside and Undecided name (0 and 0 for the others), and the number of pieces looked at. Inside says that every
+ * load of every curve in the rectangles lies at or above the low sides and strictly below the high sides; Outside, that
+ * no load lies in the box on the stretch of its piece, from index / 2^depth to (index + 1) / 2^depth, both ends
+ * included. Refusals 1, 2, 3, 7, 8, 9, 17 (the sum plus depth times the degree), 12.
  */
-uint64_t jusqani_search(uint32_t degree, uint16_t sum, const int32_t *sides, size_t sides_length,
-                        const int32_t *limits, size_t limits_length, uint32_t depth, uint32_t budget,
-                        uint32_t *verdict, size_t verdict_length);
+uint64_t jusqani_search(const int32_t *curve, jusqani_length curve_length, const int32_t *limits,
+                        jusqani_length limits_length, uint32_t depth, uint32_t budget, uint32_t *verdict,
+                        jusqani_length verdict_length);
 
 /*
- * Chooses from a list of relay settings the first whose box is found to hold the curve. Each record has a walk, that of
- * jusqani_search over the record's box with this depth and this budget: each walk starts with the whole budget. Three
- * numbers are stored in choice: JUSQANI_FITS, the index of the first record whose walk ends Inside, counted from 0, and
- * its setting number; or JUSQANI_NONE_FITS, 0 and 0, which is a normal result, exactly if no record's walk ends Inside.
- * Setting numbers may repeat, and the list is not changed. Refusals 16, which is tried before the curve; 1, 2, 3, 7,
- * for which every box of the list is tried before any walk, 8, 9, 17: sum + depth * degree is above 65,535, and 12:
- * choice is shorter than 3. A refusal changes nothing, and choice keeps what lies past the three.
+ * Chooses from a list of relay settings the first whose box is found to hold the curve, each by a walk of its own, that
+ * of jusqani_search over its box with this depth and this whole budget. Three numbers are stored in choice:
+ * JUSQANI_FITS, the index of the first record whose walk ends Inside, counted from 0, and its setting number; or, where
+ * no record's walk ends Inside, JUSQANI_NONE_FITS, 0 and 0. Setting numbers may repeat. Refusals 16, 1, 2, 3, 7 (any
+ * box of the list, before the first walk), 8, 9, 17 (as in jusqani_search), 12.
  */
-uint64_t jusqani_choose_setting(uint32_t degree, uint16_t sum, const int32_t *sides, size_t sides_length,
-                                const struct jusqani_setting *settings, size_t settings_length, uint32_t depth,
-                                uint32_t budget, uint32_t *choice, size_t choice_length);
+uint64_t jusqani_choose_setting(const int32_t *curve, jusqani_length curve_length,
+                                const struct jusqani_setting *settings, jusqani_length settings_length, uint32_t depth,
+                                uint32_t budget, uint32_t *choice, jusqani_length choice_length);
 
 /*
- * Encloses what the bridge measured in a rectangle of whole steps. The length of ohms tells the form: 0 numbers are no
- * carrier, 2 a load (resistance, reactance), 3 a load with a spread. A single number lacks its reactance, which then
- * counts as not a number; numbers past the third are not read. Minus zero counts as zero. *found becomes
- * JUSQANI_NO_CARRIER, a normal result without a rectangle, or JUSQANI_RECTANGLE with the four sides stored in rect: in
- * each coordinate the step below the load and the step above it, the low one less and the high one plus the spread,
- * which is by itself rounded up to steps. Refusals 13, 14 and 12: there is a rectangle, and rect is shorter than 4. A
- * refusal changes neither rect nor *found, and no carrier does not change rect. No answer depends on the processor's
- * floating-point mode.
+ * Encloses what the bridge measured in a rectangle of whole steps. The length of ohms tells the form: 0 no carrier, 2 a
+ * load (resistance, reactance), 3 a load with a spread. A single number lacks its reactance, which then counts as not a
+ * number, and of more than three the spread counts as not a number. Minus zero counts as zero. *found becomes
+ * JUSQANI_NO_CARRIER, and rect is kept, or JUSQANI_RECTANGLE with the four sides stored in rect: in each coordinate the
+ * step below the load and the step above it, the low one less and the high one plus the spread, which is by itself
+ * rounded up to steps. No answer depends on the processor's floating-point mode. Refusals 13, 14, 12 (where there is a
+ * rectangle).
  */
-uint64_t jusqani_enclose(const float *ohms, size_t ohms_length, int32_t *rect, size_t rect_length, uint32_t *found);
+uint64_t jusqani_enclose(const float *ohms, jusqani_length ohms_length, int32_t *rect, jusqani_length rect_length,
+                         uint32_t *found);
 
 /*
- * Reads the card in card[0 .. card_length). Its curve, with the sum 0, is stored in curve. Refusals 10 (shorter than a
- * first line), 11 in the first line, 1, 10, 11 in the other lines, 2, 3 and 12: curve is shorter than
- * JUSQANI_CURVE_LENGTH of the card's degree. A refusal changes nothing, and curve keeps what lies past the curve.
+ * Reads a card: its curve is stored in curve. Refusals 10 (shorter than a first line), 11 in the first line, 1, 10, 11
+ * in the other lines, 2, 3, 12.
  */
-uint64_t jusqani_read_card(const uint8_t *card, size_t card_length, int32_t *curve, size_t curve_length);
+uint64_t jusqani_read_card(const uint8_t *card, jusqani_length card_length, int32_t *curve,
+                           jusqani_length curve_length);
+
+/* Writes the curve as a card: JUSQANI_CARD_LENGTH of its degree bytes are stored in card. Refusals 1, 2, 3, 12. */
+uint64_t jusqani_write_card(const int32_t *curve, jusqani_length curve_length, uint8_t *card,
+                            jusqani_length card_length);
 
 /*
- * Writes the curve as a card, which is without its sum: JUSQANI_CARD_LENGTH(degree) bytes are stored in card. Refusals
- * 1, 2, 3 and 12: card is shorter than that. A refusal changes nothing, and card keeps its later bytes.
+ * Reads a card and evaluates its curve at num/den. 16 bytes are stored in out: the load's four sides, each a 32-bit
+ * two's complement number, least byte first. The answer is a refusal's number without its place: those of
+ * jusqani_read_card but 12, then 4, 5, 12.
  */
-uint64_t jusqani_write_card(uint32_t degree, const int32_t *sides, size_t sides_length, uint8_t *card,
-                            size_t card_length);
-
-/*
- * Reads the card in card[0 .. card_length) and evaluates its curve at num/den.
- *
- * Answers 0 on success. The first 16 bytes of out are then the load's sides in steps of 1/1,024 ohm, in the order
- * resistance low, resistance high, reactance low, reactance high, each a 32-bit two's complement number, least byte
- * first. Later bytes of out keep their contents. Any other answer is a refusal's number, without its place, and no
- * byte of out is changed: 10, 11, 1, 2 and 3 as for jusqani_read_card, then 4 and 5, then 12 where out is shorter than
- * 16 bytes.
- */
-uint32_t jusqani_panel(const uint8_t *card, size_t card_length, uint32_t num, uint32_t den, uint8_t *out,
-                       size_t out_length);
+uint32_t jusqani_panel(const uint8_t *card, jusqani_length card_length, uint32_t num, uint32_t den, uint8_t *out,
+                       jusqani_length out_length);
 
 #ifdef __cplusplus
 }
