@@ -1,6 +1,6 @@
 /* Encloses what the bridge measured: shows the rectangle in steps and in ohms, or that there is no carrier, or a refusal
  * with its place.
- * usage: bridge [--rect LENGTH] [RESISTANCE [REACTANCE [SPREAD]]] */
+ * usage: bridge [--rect LENGTH] [RESISTANCE [REACTANCE [SPREAD [MORE...]]]] */
 #include <inttypes.h>
 #include <stdio.h>
 #include <stdlib.h>
@@ -9,7 +9,8 @@
 #include "common.h"
 #include "jusqani.h"
 
-#define MAX_MEASURED 3
+/* The most numbers that can be measured: more than the call takes. */
+#define MAX_MEASURED 5
 #define MAX_RECT 8
 
 /* What the buffer and *found hold before a call; no call stores these. */
@@ -80,7 +81,7 @@ int main(int argc, char **argv)
         first = 3;
     }
     if (argc - first > MAX_MEASURED) {
-        fprintf(stderr, "usage: %s [--rect LENGTH] [RESISTANCE [REACTANCE [SPREAD]]]\n", argv[0]);
+        fprintf(stderr, "usage: %s [--rect LENGTH] [RESISTANCE [REACTANCE [SPREAD [MORE...]]]]\n", argv[0]);
         return BAD_USAGE;
     }
     for (int k = first; k < argc; k++)

@@ -17,8 +17,8 @@
 
 #define STEPS_PER_OHM ((double)JUSQANI_STEPS_PER_OHM)
 
-/* The numbers of a curve in front of its sides: its degree and its sum of steps. */
-#define CURVE_HEAD 2
+/* The numbers of a curve of the highest degree. */
+#define MAX_CURVE JUSQANI_CURVE_LENGTH(JUSQANI_MAX_DEGREE)
 
 /* The number that an argument gives, at most a largest one; anything else ends the program. */
 uint32_t argument(const char *text, uint32_t largest);

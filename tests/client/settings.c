@@ -12,8 +12,6 @@
 #include "common.h"
 #include "jusqani.h"
 
-#define MAX_CURVE JUSQANI_CURVE_LENGTH(JUSQANI_MAX_DEGREE)
-#define MAX_SIDES (MAX_CURVE - CURVE_HEAD)
 #define MAX_CHOICE 6
 
 /* A record's arguments, and the most records that can be lent: more than the call takes. */
@@ -22,10 +20,6 @@
 
 /* What the buffer holds before a call; no call stores it. */
 #define FILL UINT32_MAX
-
-/* The verdicts of a walk that finds every load in the box, and that finds a piece without one there. */
-#define INSIDE 1
-#define OUTSIDE 2
 
 /* The record's layout, as the header states it and the library reads it. */
 _Static_assert(sizeof(struct jusqani_setting) == 20, "a setting has 20 bytes");
@@ -62,13 +56,12 @@ static int kept(const uint32_t *choice, size_t from)
 
 /* The refusal of a list of so many records without a box, for a curve with such a first rectangle and a zero one
  * behind it, too deep, without a budget, with the greatest sum and with no room for a choice. */
-static uint32_t refused_all(size_t count, uint32_t degree, int32_t low, int32_t high)
+static uint32_t refused_all(size_t count, int32_t degree, int32_t low, int32_t high)
 {
     static const struct jusqani_setting no_boxes[JUSQANI_MAX_SETTINGS + 1];
-    const int32_t sides[2 * JUSQANI_RECT_LENGTH] = {low, high, low, high};
+    const int32_t curve[JUSQANI_CURVE_LENGTH(1)] = {degree, UINT16_MAX, low, high, low, high};
     uint32_t choice[MAX_CHOICE] = {FILL, FILL, FILL, FILL, FILL, FILL};
-    uint64_t answer =
-        jusqani_choose_setting(degree, UINT16_MAX, sides, 2 * JUSQANI_RECT_LENGTH, no_boxes, count, 13, 0, choice, 0);
+    uint64_t answer = jusqani_choose_setting(curve, JUSQANI_CURVE_LENGTH(1), no_boxes, count, 13, 0, choice, 0);
     require(kept(choice, 0), "a refused call changes nothing");
     return JUSQANI_NUMBER(answer);
 }
@@ -88,29 +81,29 @@ static void check_order(void)
 /* A box that lacks a side is refused, though with a zero there it would hold the curve. */
 static void check_lacking(void)
 {
-    static const int32_t sides[] = {51200, 51200, -1, -1, 51200, 51200, -1, -1};
+    static const int32_t curve[] = {1, 0, 51200, 51200, -1, -1, 51200, 51200, -1, -1};
     static const int32_t limits[] = {0, 60000, -10, -5};
     uint32_t verdict[JUSQANI_VERDICT_LENGTH] = {FILL};
     for (size_t length = 0; length < JUSQANI_RECT_LENGTH; length++)
-        require(jusqani_search(1, 0, sides, 8, limits, length, 12, 8191, verdict, JUSQANI_VERDICT_LENGTH) == 7
+        require(jusqani_search(curve, 10, limits, length, 12, 8191, verdict, JUSQANI_VERDICT_LENGTH) == 7
                     && verdict[0] == FILL,
                 "a box that lacks a side is refused");
-    require(jusqani_search(1, 0, sides, 8, limits, JUSQANI_RECT_LENGTH, 12, 8191, verdict, JUSQANI_VERDICT_LENGTH) == 0
-                && verdict[0] == OUTSIDE,
+    require(jusqani_search(curve, 10, limits, JUSQANI_RECT_LENGTH, 12, 8191, verdict, JUSQANI_VERDICT_LENGTH) == 0
+                && verdict[0] == JUSQANI_OUTSIDE,
             "the whole box is walked, and the curve lies outside");
 }
 
 /* The refusal of a curve of degree 8 with such a sum that lies in a box, by the walk and by the list of that box. */
-static uint64_t refused_at(uint16_t sum, uint32_t depth, uint32_t budget, size_t room)
+static uint64_t refused_at(int32_t sum, uint32_t depth, uint32_t budget, size_t room)
 {
     static const struct jusqani_setting about = {{-1, 1, -1, 1}, 7};
-    static const int32_t sides[MAX_SIDES];
+    const int32_t curve[MAX_CURVE] = {8, sum};
     uint32_t verdict[JUSQANI_VERDICT_LENGTH] = {FILL}, choice[JUSQANI_CHOICE_LENGTH] = {FILL};
-    uint64_t walked = jusqani_search(8, sum, sides, MAX_SIDES, about.limits, JUSQANI_RECT_LENGTH, depth, budget, verdict,
+    uint64_t walked = jusqani_search(curve, MAX_CURVE, about.limits, JUSQANI_RECT_LENGTH, depth, budget, verdict,
                                      room == 0 ? 0 : JUSQANI_VERDICT_LENGTH);
-    uint64_t chosen = jusqani_choose_setting(8, sum, sides, MAX_SIDES, &about, 1, depth, budget, choice, room);
+    uint64_t chosen = jusqani_choose_setting(curve, MAX_CURVE, &about, 1, depth, budget, choice, room);
     require(JUSQANI_NUMBER(walked) == JUSQANI_NUMBER(chosen), "a walk and a list are refused alike");
-    require(verdict[0] == (walked == 0 ? INSIDE : FILL), "the walk ends Inside, and a refused one stores nothing");
+    require(verdict[0] == (walked == 0 ? JUSQANI_INSIDE : FILL), "the walk ends Inside, and a refused one stores nothing");
     require(choice[0] == (chosen == 0 ? JUSQANI_FITS : FILL), "its box fits, and a refused list stores nothing");
     return chosen;
 }
@@ -125,6 +118,8 @@ static void check_sums(void)
     require(refused_at(65535, 13, 1, 0) == 8, "depth is refused before the sum");
     require(refused_at(65535, 12, 0, 0) == 9, "budget is refused before the sum");
     require(refused_at(65535, 12, 1, 0) == 17, "the sum is refused before the room");
+    require(refused_at(-1, 0, 1, 3) == 0 && refused_at(65536, 0, 1, 3) == 0, "a number that is no sum is no refusal");
+    require(refused_at(-1, 1, 1, 3) == 17 && refused_at(65536, 1, 1, 3) == 17, "it counts as the sum 65,535");
 }
 
 /* Shows what was chosen. */
@@ -149,7 +144,7 @@ static void fill_gaps(size_t count, int filling)
 }
 
 /* Chooses from the first settings for the card on standard input, and shows what came. */
-static int choose(size_t count, uint16_t sum, uint32_t depth, uint32_t budget, size_t choice_length)
+static int choose(size_t count, int32_t sum, uint32_t depth, uint32_t budget, size_t choice_length)
 {
     static struct jusqani_setting before[MAX_LIST];
     uint8_t card[MAX_CARD];
@@ -159,16 +154,12 @@ static int choose(size_t count, uint16_t sum, uint32_t depth, uint32_t budget, s
     size_t card_length = read_input(card);
     uint64_t answer = jusqani_read_card(card, card_length, curve, MAX_CURVE);
     if (answer == 0) {
-        const int32_t *sides = curve + CURVE_HEAD;
-        size_t length = (size_t)JUSQANI_CURVE_LENGTH(curve[0]) - CURVE_HEAD;
-        uint32_t degree = (uint32_t)curve[0];
+        curve[1] = sum;
         fill_gaps(count, 0x00);
-        answer = jusqani_choose_setting(degree, sum, sides, length, settings, count, depth, budget, choice,
-                                        choice_length);
+        answer = jusqani_choose_setting(curve, MAX_CURVE, settings, count, depth, budget, choice, choice_length);
         fill_gaps(count, 0xa5);
         memcpy(before, settings, sizeof before);
-        require(answer == jusqani_choose_setting(degree, sum, sides, length, settings, count, depth, budget, again,
-                                                 choice_length)
+        require(answer == jusqani_choose_setting(curve, MAX_CURVE, settings, count, depth, budget, again, choice_length)
                     && memcmp(choice, again, sizeof choice) == 0,
                 "what lies behind a record's number does not matter");
         require(memcmp(before, settings, sizeof before) == 0, "the list is unchanged");
@@ -196,7 +187,7 @@ int main(int argc, char **argv)
 {
     char **left = argv + 1;
     size_t choice_length = option(&left, "--choice", MAX_CHOICE, JUSQANI_CHOICE_LENGTH);
-    uint16_t sum = (uint16_t)option(&left, "--sum", UINT16_MAX, 0);
+    int32_t sum = (int32_t)option(&left, "--sum", UINT16_MAX, 0);
     int first = (int)(left - argv);
     int numbers = argc - first - 2;
     if (numbers < 0 || numbers % RECORD_LENGTH != 0 || numbers / RECORD_LENGTH > MAX_LIST) {

@@ -3,7 +3,7 @@
  * it has not written, as the gaps of a record, from one place of its frame to another. Every call is made on every card
  * with each pattern, the search so that it reaches its greatest depth, the choice of a setting so that it makes as many
  * such walks as a list can have, and the bridge's call, which needs no card, on measurements of every form. Shows the
- * most bytes that each call took, and fails if the panel call took more than its bound.
+ * most bytes that each call took, and fails if one took more than the header says.
  *
  * A number counts from the caller's frame down: the arguments that are passed on the stack with their alignment, the
  * return address, the frames of the library, and those of memcpy. The caller's own frame is not counted.
@@ -18,17 +18,18 @@
 #include "common.h"
 #include "jusqani.h"
 
-/* The most bytes of stack that the panel call may take on x86-64, as docs/TRUST.md states it. */
+/* The most bytes of stack that the panel call may take on x86-64, whatever the header says: docs/TRUST.md states it. */
 #define PANEL_STACK_BOUND 1536
+#define BOUND(name, bytes) bound_of_##name = bytes,
+enum { JUSQANI_STACK(BOUND) };
+_Static_assert(bound_of_panel <= PANEL_STACK_BOUND, "the header gives the panel call more stack than it may take");
 
 #define STACK_SIZE 65536
 #define MAX_DEPTH 12
 #define MAX_BUDGET 8191
-#define MAX_CURVE JUSQANI_CURVE_LENGTH(JUSQANI_MAX_DEGREE)
-#define MAX_SIDES (MAX_CURVE - CURVE_HEAD)
 #define MAX_CARD_LENGTH JUSQANI_CARD_LENGTH(JUSQANI_MAX_DEGREE)
 #define LOAD_BYTES 16
-#define MAX_MEASURED 3
+#define MAX_MEASURED 4
 
 /* What the calls are given and give. It is static, so that a call alone uses the measured stack. */
 static uint8_t card[MAX_CARD];
@@ -60,49 +61,46 @@ static void call_panel(void)
 static void call_evaluate(void)
 {
     COUNT_FROM_HERE;
-    answer = jusqani_evaluate((uint32_t)curve[0], curve + CURVE_HEAD, MAX_SIDES, num, den, first, MAX_CURVE, ohms,
-                              JUSQANI_RECT_LENGTH, &exact);
+    answer = jusqani_evaluate(curve, MAX_CURVE, num, den, first, MAX_CURVE, ohms, JUSQANI_RECT_LENGTH, &exact);
 }
 
 static void call_evaluate_sixteenths(void)
 {
     COUNT_FROM_HERE;
-    answer = jusqani_evaluate_sixteenths((uint32_t)curve[0], curve + CURVE_HEAD, MAX_SIDES, sixteenths, first,
-                                         MAX_CURVE, ohms, JUSQANI_RECT_LENGTH, &exact);
+    answer = jusqani_evaluate_sixteenths(curve, MAX_CURVE, sixteenths, first, MAX_CURVE, ohms, JUSQANI_RECT_LENGTH,
+                                         &exact);
 }
 
 static void call_subdivide(void)
 {
     COUNT_FROM_HERE;
-    answer = jusqani_subdivide((uint32_t)curve[0], (uint16_t)curve[1], curve + CURVE_HEAD, MAX_SIDES, num, den, first,
-                               MAX_CURVE, second, MAX_CURVE, &exact);
+    answer = jusqani_subdivide(curve, MAX_CURVE, num, den, first, MAX_CURVE, second, MAX_CURVE, &exact);
 }
 
 static void call_elevate(void)
 {
     COUNT_FROM_HERE;
-    answer = jusqani_elevate((uint32_t)curve[0], (uint16_t)curve[1], curve + CURVE_HEAD, MAX_SIDES, first, MAX_CURVE,
-                             &exact);
+    answer = jusqani_elevate(curve, MAX_CURVE, first, MAX_CURVE, &exact);
 }
 
 static void call_bounds(void)
 {
     COUNT_FROM_HERE;
-    answer = jusqani_bounds((uint32_t)curve[0], curve + CURVE_HEAD, MAX_SIDES, first, MAX_CURVE);
+    answer = jusqani_bounds(curve, MAX_CURVE, first, MAX_CURVE);
 }
 
 static void call_search(void)
 {
     COUNT_FROM_HERE;
-    answer = jusqani_search((uint32_t)curve[0], (uint16_t)curve[1], curve + CURVE_HEAD, MAX_SIDES, limits,
-                            JUSQANI_RECT_LENGTH, MAX_DEPTH, MAX_BUDGET, verdict, JUSQANI_VERDICT_LENGTH);
+    answer = jusqani_search(curve, MAX_CURVE, limits, JUSQANI_RECT_LENGTH, MAX_DEPTH, MAX_BUDGET, verdict,
+                            JUSQANI_VERDICT_LENGTH);
 }
 
 static void call_choose_setting(void)
 {
     COUNT_FROM_HERE;
-    answer = jusqani_choose_setting((uint32_t)curve[0], (uint16_t)curve[1], curve + CURVE_HEAD, MAX_SIDES, settings,
-                                    JUSQANI_MAX_SETTINGS, MAX_DEPTH, MAX_BUDGET, choice, JUSQANI_CHOICE_LENGTH);
+    answer = jusqani_choose_setting(curve, MAX_CURVE, settings, JUSQANI_MAX_SETTINGS, MAX_DEPTH, MAX_BUDGET, choice,
+                                    JUSQANI_CHOICE_LENGTH);
 }
 
 static void call_enclose(void)
@@ -120,25 +118,16 @@ static void call_read_card(void)
 static void call_write_card(void)
 {
     COUNT_FROM_HERE;
-    answer = jusqani_write_card((uint32_t)curve[0], curve + CURVE_HEAD, MAX_SIDES, bytes, MAX_CARD_LENGTH);
+    answer = jusqani_write_card(curve, MAX_CURVE, bytes, MAX_CARD_LENGTH);
 }
 
+/* The calls of the header's table, each with the most bytes that it may take. */
+#define CALL(name, bytes) {#name, call_##name, bound_of_##name},
 static const struct {
     const char *name;
     void (*call)(void);
-} calls[] = {
-    {"panel", call_panel},
-    {"evaluate", call_evaluate},
-    {"evaluate_sixteenths", call_evaluate_sixteenths},
-    {"subdivide", call_subdivide},
-    {"elevate", call_elevate},
-    {"bounds", call_bounds},
-    {"search", call_search},
-    {"choose_setting", call_choose_setting},
-    {"enclose", call_enclose},
-    {"read_card", call_read_card},
-    {"write_card", call_write_card},
-};
+    size_t bound;
+} calls[] = {JUSQANI_STACK(CALL)};
 #define CALLS (sizeof calls / sizeof calls[0])
 
 static void fail(const char *what)
@@ -148,13 +137,13 @@ static void fail(const char *what)
 }
 
 /* The byte of a pattern at a place of the stack. */
-static uint8_t filling(int pattern, size_t place)
+static uint8_t filling(unsigned pattern, size_t place)
 {
     return (uint8_t)(pattern + 151 * place);
 }
 
 /* The bytes from the caller's frame down to the last byte of a stack filled with a pattern that a call changed. */
-static size_t touched(void (*call)(void), int pattern)
+static size_t touched(void (*call)(void), unsigned pattern)
 {
     static _Alignas(16) uint8_t stack[STACK_SIZE];
     static ucontext_t here, there;
@@ -183,7 +172,7 @@ static int deepest;
 
 /* Makes every call once on a stack filled with a pattern. A list takes long and has no parameter, so that it is walked
  * at a card's first parameter alone. */
-static void measure_calls(int pattern, int at_first)
+static void measure_calls(unsigned pattern, int at_first)
 {
     int deep = 0;
     for (size_t c = 0; c < CALLS; c++) {
@@ -213,6 +202,7 @@ static void measure_parameters(void)
         {7, 7, 16, 3, {-16384, 1e-45f, 0}},
         {1, 0, 17, 3, {0, 0, -1}},
         {8, 7, UINT32_MAX, 3, {16384, 0, 1}},
+        {0, 0, 18, 4, {60, 62, -43.5f, -40.5f}},
     };
     for (size_t p = 0; p < sizeof given / sizeof given[0]; p++) {
         num = given[p].num;
@@ -230,7 +220,7 @@ static void measure_parameters(void)
  * to the piece at the curve's start. */
 static void set_limits(void)
 {
-    const int32_t *sides = curve + CURVE_HEAD;
+    const int32_t *sides = curve + JUSQANI_RECT_AT(0);
     limits[0] = sides[0];
     limits[1] = sides[0] + 1;
     limits[2] = sides[2];
@@ -259,6 +249,20 @@ static void show(void)
     printf(" bytes\n");
 }
 
+/* Whether no call took more than the header says; one that did is told. */
+static int within_bounds(void)
+{
+    int within = 1;
+    for (size_t c = 0; c < CALLS; c++) {
+        if (most[c] <= calls[c].bound)
+            continue;
+        fprintf(stderr, "stack: %s took %zu bytes, and JUSQANI_STACK in include/jusqani.h says at most %zu\n",
+                calls[c].name, most[c], calls[c].bound);
+        within = 0;
+    }
+    return within;
+}
+
 int main(int argc, char **argv)
 {
     if (argc < 2) {
@@ -272,9 +276,5 @@ int main(int argc, char **argv)
     if (!deepest)
         fail("no search and no list of settings reached its greatest depth");
     show();
-    if (most[0] > PANEL_STACK_BOUND) {
-        fprintf(stderr, "stack: the panel call took %zu bytes, its bound is %d\n", most[0], PANEL_STACK_BOUND);
-        return PROMISE_BROKEN;
-    }
-    return 0;
+    return within_bounds() ? 0 : PROMISE_BROKEN;
 }
