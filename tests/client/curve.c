@@ -90,10 +90,11 @@ static void check_lacking(int32_t degree)
             "a curve that lacks nothing is accepted");
 }
 
-/* A degree must be 1 to 8. The sides of a curve without its degree and sum, here the dipole's, are not taken for one. */
+/* A degree must be 1 to 8, also where its low bits are. The sides of a curve without its degree and sum, here the
+ * dipole's, are not taken for one. */
 static void check_degrees(void)
 {
-    static const int32_t degrees[] = {INT32_MIN, -1, 0, 9, INT32_MAX};
+    static const int32_t degrees[] = {INT32_MIN, -1, 0, 9, 0x101, 0x10001, INT32_MAX};
     static const int32_t sides[] = {61440, 63488, -44544, -41472, 66560, 68608, -13824, -10752,
                                     74496, 77056, 20736,  24320,  83456, 86528, 57344,  61440};
     for (size_t k = 0; k < sizeof degrees / sizeof degrees[0]; k++)

@@ -202,7 +202,7 @@ static void measure_parameters(void)
         {7, 7, 16, 3, {-16384, 1e-45f, 0}},
         {1, 0, 17, 3, {0, 0, -1}},
         {8, 7, UINT32_MAX, 3, {16384, 0, 1}},
-        {0, 0, 18, 4, {60, 62, -43.5f, -40.5f}},
+        {0, 0, 18, 4, {81.5f, 84.5f, 56, 60}},
     };
     for (size_t p = 0; p < sizeof given / sizeof given[0]; p++) {
         num = given[p].num;
