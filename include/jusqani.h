@@ -27,9 +27,9 @@
  * Exactness. *exact becomes 1 where every side that the call gives is the exact one of the curve that it was given,
  * whatever the calls before it rounded, and 0 where some side is not.
  *
- * Buffers. The caller provides valid buffers of the stated lengths, in numbers of their type (bytes, settings) and
- * aligned as that type is. One that a call writes, *exact and *found too, overlaps no other. A pointer may be null where
- * its length is 0; exact and found are never null.
+ * Buffers. The caller provides valid buffers, aligned as their type is, of the stated lengths, which count numbers,
+ * bytes or settings. One that a call writes, *exact and *found too, overlaps no other. A pointer may be null where its
+ * length is 0; exact and found are never null.
  *
  * Running. A call always returns, keeps no pointer, and has no data of its own that is written. So calls may run at
  * once, on several threads or in an interrupt, where none writes a buffer that another uses.
@@ -212,12 +212,12 @@ uint64_t jusqani_choose_setting(const int32_t *curve, jusqani_length curve_lengt
 
 /*
  * Encloses what the bridge measured in a rectangle of whole steps. The length of ohms tells the form: 0 no carrier, 2 a
- * load (resistance, reactance), 3 a load with a spread. A single number lacks its reactance, which then counts as not a
- * number, and of more than three the spread counts as not a number. Minus zero counts as zero. *found becomes
- * JUSQANI_NO_CARRIER, and rect is kept, or JUSQANI_RECTANGLE with the four sides stored in rect: in each coordinate the
- * step below the load and the step above it, the low one less and the high one plus the spread, which is by itself
- * rounded up to steps. No answer depends on the processor's floating-point mode. Refusals 13, 14, 12 (where there is a
- * rectangle).
+ * load (resistance, reactance), 3 a load with a spread. Any other length is refused with 13: the reactance that a single
+ * number lacks, and the spread of more than three numbers, count as not a number. Minus zero counts as zero. *found
+ * becomes JUSQANI_NO_CARRIER, and rect is kept, or JUSQANI_RECTANGLE with the four sides stored in rect: in each
+ * coordinate the step below the load and the step above it, the low one less and the high one plus the spread, which is
+ * by itself rounded up to steps. No answer depends on the processor's floating-point mode. Refusals 13, 14, 12 (where
+ * there is a rectangle).
  */
 uint64_t jusqani_enclose(const float *ohms, jusqani_length ohms_length, int32_t *rect, jusqani_length rect_length,
                          uint32_t *found);
