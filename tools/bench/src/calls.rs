@@ -3,32 +3,39 @@
 
 use crate::lists::{BUDGET, DEPTH};
 use crate::{plain, plain_enclose, plain_settings, plain_sixteenths};
-use jusqani::{raw, Setting, CHOICE_LENGTH, CURVE_LENGTH, MAX_DEGREE, PLACES, RECT_LENGTH};
+use jusqani::{raw, Curve, Setting, CHOICE_LENGTH, CURVE_LENGTH, PLACES, RECT_LENGTH};
 
 /// The sides of a curve of the highest degree.
 pub const CURVE_SIDES: usize = RECT_LENGTH * PLACES;
 
-/// What both sides are given to evaluate or subdivide: a curve of the highest degree and a parameter. The sum
-/// of steps is for subdivide alone.
+/// What both sides are given to evaluate or subdivide: a curve of the highest degree and a parameter.
 pub struct Input {
-    pub sum: u16,
-    pub sides: [i32; CURVE_SIDES],
+    pub curve: Curve,
     pub num: u32,
     pub den: u32,
 }
 
 /// What both sides are given to evaluate at a sixteenth: a curve and j.
 pub struct AtSixteenth {
-    pub degree: u32,
-    pub sides: Vec<i32>,
+    pub curve: Curve,
     pub j: u32,
 }
 
 /// What both sides are given to choose a setting: a curve of the highest degree and a list.
 pub struct Listed {
-    pub sum: u16,
-    pub sides: [i32; CURVE_SIDES],
+    pub curve: Curve,
     pub settings: Vec<Setting>,
+}
+
+/// A curve as plain Rust is given it: its degree, its sum and its sides. A degree that is lacking or below 0 becomes
+/// another that is refused, and a sum that is lacking or out of range the largest.
+pub fn parts(curve: &[i32]) -> (u32, u16, &[i32]) {
+    let sum = curve.get(1).and_then(|sum| u16::try_from(*sum).ok());
+    (
+        curve.first().map_or(0, |degree| *degree as u32),
+        sum.unwrap_or(u16::MAX),
+        curve.get(2..).unwrap_or_default(),
+    )
 }
 
 /// The two pieces of a curve of the highest degree, each its degree, its sum, then its sides.
@@ -96,39 +103,42 @@ pub const EVALUATE: Operation<Input> = Operation {
         run: |input, out| {
             let (num, den) = (input.num, input.den);
             let (load, ohms, exact) = (&mut out.load, &mut out.ohms, &mut out.flag);
-            raw::evaluate(MAX_DEGREE, &input.sides, num, den, load, ohms, exact)
+            raw::evaluate(&input.curve.numbers, num, den, load, ohms, exact)
         },
         result: |out| (out.load.to_vec(), out.flag),
     },
     plain: Call {
         run: |input, out| {
+            let (_, _, sides) = parts(&input.curve.numbers);
             let (load, exact) = (&mut out.plain_load, &mut out.plain_flag);
-            plain::evaluate(&input.sides, input.num, input.den, load, exact).into()
+            plain::evaluate(sides, input.num, input.den, load, exact).into()
         },
         result: |out| (out.plain_load.to_vec(), out.plain_flag),
     },
     limit: Some(|input, out| {
+        let (_, _, sides) = parts(&input.curve.numbers);
         let (load, exact) = (&mut out.plain_load, &mut out.plain_flag);
-        plain::evaluate_limit(&input.sides, input.num, input.den, load, exact).into()
+        plain::evaluate_limit(sides, input.num, input.den, load, exact).into()
     }),
 };
 
 pub const SIXTEENTHS: Operation<AtSixteenth> = Operation {
     ours: Call {
-        run: |AtSixteenth { degree, sides, j }, out| {
+        run: |AtSixteenth { curve, j }, out| {
             let (load, ohms, exact) = (&mut out.load, &mut out.ohms, &mut out.flag);
-            raw::evaluate_sixteenths(*degree, sides, *j, load, ohms, exact)
+            raw::evaluate_sixteenths(&curve.numbers, *j, load, ohms, exact)
         },
         result: |out| (with_ohms(&out.load, &out.ohms), out.flag),
     },
     plain: Call {
-        run: |AtSixteenth { degree, sides, j }, out| {
+        run: |AtSixteenth { curve, j }, out| {
+            let (degree, _, sides) = parts(&curve.numbers);
             let (load, ohms, exact) = (
                 &mut out.plain_load,
                 &mut out.plain_ohms,
                 &mut out.plain_flag,
             );
-            plain_sixteenths::evaluate_sixteenths(*degree, sides, *j, load, ohms, exact)
+            plain_sixteenths::evaluate_sixteenths(degree, sides, *j, load, ohms, exact)
         },
         result: |out| (with_ohms(&out.plain_load, &out.plain_ohms), out.plain_flag),
     },
@@ -144,41 +154,39 @@ fn with_ohms(load: &[i32], ohms: &[f32]) -> Vec<i32> {
 pub const SUBDIVIDE: Operation<Input> = Operation {
     ours: Call {
         run: |input, out| {
-            let (sum, sides, num, den) = (input.sum, &input.sides, input.num, input.den);
+            let (num, den) = (input.num, input.den);
             let (left, right, exact) = (&mut out.left, &mut out.right, &mut out.flag);
-            raw::subdivide(MAX_DEGREE, sum, sides, num, den, left, right, exact)
+            raw::subdivide(&input.curve.numbers, num, den, left, right, exact)
         },
         result: |out| ([out.left, out.right].concat(), out.flag),
     },
     plain: Call {
         run: |input, out| {
-            let (sum, sides, num, den) = (input.sum, &input.sides, input.num, input.den);
+            let (_, sum, sides) = parts(&input.curve.numbers);
             let (pieces, exact) = (&mut out.plain_pieces, &mut out.plain_flag);
-            plain::subdivide(sum, sides, num, den, pieces, exact).into()
+            plain::subdivide(sum, sides, input.num, input.den, pieces, exact).into()
         },
         result: |out| (out.plain_pieces.concat(), out.plain_flag),
     },
     limit: Some(|input, out| {
-        let (sum, sides, num, den) = (input.sum, &input.sides, input.num, input.den);
+        let (_, sum, sides) = parts(&input.curve.numbers);
         let (pieces, exact) = (&mut out.plain_pieces, &mut out.plain_flag);
-        plain::subdivide_limit(sum, sides, num, den, pieces, exact).into()
+        plain::subdivide_limit(sum, sides, input.num, input.den, pieces, exact).into()
     }),
 };
 
 pub const CHOOSE_SETTING: Operation<Listed> = Operation {
     ours: Call {
-        run: |list, out| {
-            let (sum, sides, settings) = (list.sum, &list.sides, &list.settings);
-            let choice = &mut out.choice;
-            raw::choose_setting(MAX_DEGREE, sum, sides, settings, DEPTH, BUDGET, choice)
+        run: |Listed { curve, settings }, out| {
+            raw::choose_setting(&curve.numbers, settings, DEPTH, BUDGET, &mut out.choice)
         },
         result: |out| chosen(out.choice),
     },
     plain: Call {
-        run: |list, out| {
-            let (sum, sides, settings) = (list.sum, &list.sides, &list.settings);
+        run: |Listed { curve, settings }, out| {
+            let (degree, sum, sides) = parts(&curve.numbers);
             let choice = &mut out.plain_choice;
-            plain_settings::choose_setting(MAX_DEGREE, sum, sides, settings, DEPTH, BUDGET, choice)
+            plain_settings::choose_setting(degree, sum, sides, settings, DEPTH, BUDGET, choice)
         },
         result: |out| chosen(out.plain_choice),
     },

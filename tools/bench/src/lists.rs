@@ -1,11 +1,10 @@
 //! The lists of relay settings that are timed. Each is drawn about its curve's own bounds, and has as many
 //! records as a list may have.
 
-use crate::calls::{Listed, CURVE_SIDES};
-use crate::{plain_settings, sums, SEED};
-use jusqani::{Curve, Interval, Rect, Setting, Verdict, MAX_DEGREE, MAX_SETTINGS, RECT_LENGTH};
-use second::ask::Given;
-use second::draw;
+use crate::calls::{parts, Listed, CURVE_SIDES};
+use crate::{curve_of, plain_settings, sums, SEED};
+use jusqani::{Curve, Interval, Rect, Setting, Verdict};
+use jusqani::{CURVE_LENGTH, MAX_DEGREE, MAX_SETTINGS, RECT_LENGTH};
 use second::rng::Rng;
 
 /// What every walk is given.
@@ -46,9 +45,8 @@ pub fn lists(kind: Kind, count: usize) -> Vec<Listed> {
     let mut rng = Rng::new(SEED);
     let drawn = (0..CURVES).filter_map(|_| list(&mut rng, kind));
     let summed = drawn.zip(sums(DEPTH * MAX_DEGREE));
-    let lists = summed.map(|((sides, settings), sum)| Listed {
-        sum,
-        sides,
+    let lists = summed.map(|((curve, settings), sum)| Listed {
+        curve: curve.with_sum(sum),
         settings,
     });
     let lists: Vec<_> = lists.take(count).collect();
@@ -58,10 +56,9 @@ pub fn lists(kind: Kind, count: usize) -> Vec<Listed> {
 
 /// How many pieces a walk looks at on average, in a search and in plain Rust.
 pub fn pieces(lists: &[Listed]) -> [f64; 2] {
-    let walks = lists.iter().flat_map(|list| {
-        let curve = curve_of(&list.sides);
-        let boxes = list.settings.iter().map(|setting| setting.limits);
-        boxes.map(move |limits| walk(&curve, limits))
+    let walks = lists.iter().flat_map(|Listed { curve, settings }| {
+        let boxes = settings.iter().map(|setting| setting.limits);
+        boxes.map(move |limits| walk(curve, limits))
     });
     let both = walks.fold([0, 0], |sums, walk| {
         [sums[0] + walk.pieces, sums[1] + walk.plain_pieces]
@@ -69,8 +66,8 @@ pub fn pieces(lists: &[Listed]) -> [f64; 2] {
     both.map(|sum| f64::from(sum) / (lists.len() * MAX_SETTINGS) as f64)
 }
 
-/// A curve's sides with its list; none where no such boxes were found for it.
-fn list(rng: &mut Rng, kind: Kind) -> Option<([i32; CURVE_SIDES], Vec<Setting>)> {
+/// A curve with its list; none where no such boxes were found for it.
+fn list(rng: &mut Rng, kind: Kind) -> Option<(Curve, Vec<Setting>)> {
     let curve = curve(rng);
     let limits = (1..=MAX_SETTINGS).map(|record| limits(rng, kind, &curve, record == MAX_SETTINGS));
     let limits = limits.collect::<Option<Vec<_>>>()?;
@@ -79,7 +76,7 @@ fn list(rng: &mut Rng, kind: Kind) -> Option<([i32; CURVE_SIDES], Vec<Setting>)>
         number: rng.draw() as u16,
     };
     let settings = limits.into_iter().map(setting).collect();
-    Some((sides(&curve), settings))
+    Some((curve, settings))
 }
 
 /// The box of a record, which may be the last.
@@ -102,25 +99,10 @@ fn limits(rng: &mut Rng, kind: Kind, curve: &Curve, is_last: bool) -> Option<Rec
 
 /// An accepted curve whose sides are at most half as far out as they may be, so that there is room beside it.
 fn curve(rng: &mut Rng) -> Curve {
-    let given = Given::of(&draw::curve(rng, MAX_DEGREE as usize));
-    curve_of(&std::array::from_fn(|side| given.sides[side] / 2))
-}
-
-fn curve_of(sides: &[i32; CURVE_SIDES]) -> Curve {
-    let mut curve = Curve {
-        degree: MAX_DEGREE,
-        ..Curve::default()
-    };
-    let fours = sides.chunks_exact(RECT_LENGTH);
-    for (point, four) in curve.points.iter_mut().zip(fours) {
-        *point = Rect::from([four[0], four[1], four[2], four[3]]);
-    }
+    let mut curve = curve_of(rng, MAX_DEGREE);
+    let sides = &mut curve.numbers[CURVE_LENGTH - CURVE_SIDES..];
+    sides.iter_mut().for_each(|side| *side /= 2);
     curve
-}
-
-fn sides(curve: &Curve) -> [i32; CURVE_SIDES] {
-    let points = curve.points.map(<[i32; RECT_LENGTH]>::from);
-    std::array::from_fn(|side| points.as_flattened()[side])
 }
 
 /// The box that just holds the bounds, its sides moved in by so many steps.
@@ -155,11 +137,11 @@ fn walk(curve: &Curve, limits: Rect) -> Walk {
     | Verdict::Outside { count, .. }
     | Verdict::Spent { count }
     | Verdict::Undecided { count, .. }) = verdict;
-    let n = MAX_DEGREE as usize;
+    let (n, _, sides) = parts(&curve.numbers);
     Walk {
         verdict,
         pieces: count,
-        plain_pieces: plain_settings::pieces(n, &sides(curve), &limits.into(), DEPTH, BUDGET),
+        plain_pieces: plain_settings::pieces(n as usize, sides, &limits.into(), DEPTH, BUDGET),
     }
 }
 
@@ -184,11 +166,7 @@ mod tests {
     use jusqani::Choice;
 
     fn chosen(list: &Listed) -> Choice {
-        let curve = Curve {
-            sum: list.sum,
-            ..curve_of(&list.sides)
-        };
-        let chosen = curve.choose_setting(&list.settings, DEPTH, BUDGET);
+        let chosen = list.curve.choose_setting(&list.settings, DEPTH, BUDGET);
         chosen.expect("an accepted list")
     }
 

@@ -13,13 +13,10 @@ mod plain_settings;
 mod plain_sixteenths;
 
 use calls::{enclose, AtSixteenth, Buffers, Input, Measured, Operation, Run};
-use calls::{
-    CHOOSE_SETTING, CURVE_SIDES, EVALUATE, PLAIN_LOAD, SIXTEENTHS, SUBDIVIDE, WITH_SPREAD,
-};
-use jusqani::{MAX_DEGREE, MAX_DEN, MAX_SETTINGS};
+use calls::{CHOOSE_SETTING, EVALUATE, PLAIN_LOAD, SIXTEENTHS, SUBDIVIDE, WITH_SPREAD};
+use jusqani::{Curve, Rect, MAX_DEGREE, MAX_DEN, MAX_SETTINGS};
 use lists::{lists, pieces, Kind, BUDGET, DEPTH};
-use second::ask::Given;
-use second::draw::curve;
+use second::draw;
 use second::rng::Rng;
 use std::hint::black_box;
 use std::ops::RangeInclusive;
@@ -142,13 +139,20 @@ fn sums(more: u32) -> impl Iterator<Item = u16> {
     std::iter::repeat_with(move || rng.between(0, largest.into()) as u16)
 }
 
+/// An accepted curve of this degree with the sum 0, as the binding's users own it.
+fn curve_of(rng: &mut Rng, degree: u32) -> Curve {
+    let drawn = draw::curve(rng, degree as usize);
+    let points = drawn.control_points().iter();
+    let points = points.map(|point| Rect::from(point.map(|side| side as i32)));
+    Curve::new(&points.collect::<Vec<_>>())
+}
+
 /// An accepted curve with this sum and an accepted parameter.
 fn input(rng: &mut Rng, sum: u16, dens: &RangeInclusive<i64>) -> Input {
-    let given = Given::of(&curve(rng, MAX_DEGREE as usize));
+    let curve = curve_of(rng, MAX_DEGREE).with_sum(sum);
     let den = rng.between(*dens.start(), *dens.end());
     Input {
-        sum,
-        sides: std::array::from_fn::<i32, CURVE_SIDES, _>(|side| given.sides[side]),
+        curve,
         num: rng.between(0, den) as u32,
         den: den as u32,
     }
@@ -158,8 +162,7 @@ fn input(rng: &mut Rng, sum: u16, dens: &RangeInclusive<i64>) -> Input {
 fn at_sixteenths(rng: &mut Rng, degree: u32) -> Vec<AtSixteenth> {
     let places = (0..SIXTEENTH_PLACES as u32).cycle();
     let drawn = places.map(|j| AtSixteenth {
-        degree,
-        sides: Given::of(&curve(rng, degree as usize)).sides,
+        curve: curve_of(rng, degree),
         j,
     });
     drawn.take(SIXTEENTH_PLACES * SIXTEENTH_CURVES).collect()
@@ -264,21 +267,23 @@ fn quartiles(mut times: Vec<f64>) -> [f64; 3] {
 #[cfg(test)]
 mod tests {
     use super::*;
-    use jusqani::MAX_SIDE;
+    use jusqani::{CURVE_LENGTH, MAX_SIDE, PLACES};
 
-    const HALF: Input = Input {
-        sum: 65_527,
-        sides: [7; CURVE_SIDES],
-        num: 1,
-        den: 2,
-    };
+    /// The middle of a curve that is one point, with the largest sum that leaves room for a cut.
+    fn half() -> Input {
+        Input {
+            curve: Curve::new(&[Rect::from([7; 4]); PLACES]).with_sum(65_527),
+            num: 1,
+            den: 2,
+        }
+    }
 
     #[test]
     fn times_calls_that_agree() {
         let mut rng = Rng::new(SEED);
         let mut inputs: Vec<Input> = [ANY_DEN, DEN_16].into_iter().flat_map(inputs).collect();
         // One whose flag is lit between 0 and 1, which is rare among those drawn.
-        inputs.push(HALF);
+        inputs.push(half());
         for operation in [EVALUATE, SUBDIVIDE] {
             assert!(agree(&operation, &inputs) && accepts(operation.limit.unwrap(), &inputs));
         }
@@ -299,7 +304,7 @@ mod tests {
     fn draws_the_same_curves_at_den_16() {
         let [any_den, den_16] = [ANY_DEN, DEN_16].map(inputs);
         let mut pairs = any_den.iter().zip(&den_16);
-        assert!(pairs.all(|(any, at_16)| any.sides == at_16.sides && at_16.den == 16));
+        assert!(pairs.all(|(any, at_16)| any.curve == at_16.curve && at_16.den == 16));
         assert!((0..=16).all(|num| den_16.iter().any(|input| input.num == num)));
     }
 
@@ -307,15 +312,15 @@ mod tests {
     #[test]
     fn the_limit_refuses_as_plain_does() {
         let with_last = |last| {
-            let mut sides = HALF.sides;
-            sides[CURVE_SIDES - 1] = last;
-            Input { sides, ..HALF }
+            let mut input = half();
+            input.curve.numbers[CURVE_LENGTH - 1] = last;
+            input
         };
         let refused = [
             (2, with_last(MAX_SIDE + 1)),
             (3, with_last(6)),
-            (4, Input { den: 0, ..HALF }),
-            (5, Input { num: 3, ..HALF }),
+            (4, Input { den: 0, ..half() }),
+            (5, Input { num: 3, ..half() }),
         ];
         for operation in [EVALUATE, SUBDIVIDE] {
             for (number, input) in &refused {
@@ -338,15 +343,15 @@ mod tests {
     #[test]
     fn refuses_a_sum_as_ours_does() {
         let full = Input {
-            sum: 65_528,
-            ..HALF
+            curve: half().curve.with_sum(65_528),
+            ..half()
         };
         assert_eq!(plain_and_limit(&SUBDIVIDE, &full), [17; 2]);
         assert_eq!(answer(SUBDIVIDE.ours.run, &full), 17);
         let past_the_end = Input { num: 3, ..full };
         assert_eq!(plain_and_limit(&SUBDIVIDE, &past_the_end), [5; 2]);
         assert_eq!(answer(SUBDIVIDE.ours.run, &past_the_end), 5);
-        assert!(agree(&SUBDIVIDE, &[HALF]) && agree(&EVALUATE, &[HALF, full]));
+        assert!(agree(&SUBDIVIDE, &[half()]) && agree(&EVALUATE, &[half(), full]));
     }
 
     /// The sums are various, and leave the room that they are asked to.

@@ -149,15 +149,18 @@ pub fn choose_setting(
 #[cfg(test)]
 mod tests {
     use super::*;
+    use crate::calls::parts;
     use jusqani::raw;
     use second::ask::Given;
     use second::draw;
     use second::rng::Rng;
 
-    type Choose = fn(u32, u16, &[i32], &[Setting], u32, u32, &mut [u32]) -> u64;
+    type Choose = fn(&[i32], &[Setting], u32, u32, &mut [u32]) -> u64;
 
-    /// The sums about the greatest that a walk of some depth can have on a curve of degree 8.
-    const SUMS: [u16; 8] = [0, 0, 0, 9, 65_487, 65_488, 65_511, 65_535];
+    const PLAIN: Choose = |curve, settings, depth, budget, choice| {
+        let (degree, sum, sides) = parts(curve);
+        choose_setting(degree, sum, sides, settings, depth, budget, choice)
+    };
 
     /// Also where a list, a curve, a depth, a budget or a sum is refused, or the room is too short, both answer
     /// alike and leave the same, from the same buffer.
@@ -166,23 +169,18 @@ mod tests {
         let mut rng = Rng::new(10);
         let (mut fits, mut none, mut refused, mut summed) = (0, 0, 0, 0);
         for k in 0..12_000 {
-            let drawn = draw::curve(&mut rng, 1 + k % MAX_DEGREE as usize);
-            let given = draw::given(&mut rng, drawn);
+            let (degree, depth) = (1 + k % MAX_DEGREE, rng.pick(&[0, 1, 3, 5, 6, 13]));
+            let drawn = draw::curve(&mut rng, degree as usize);
+            let given = draw::given(&mut rng, drawn, (degree * depth) as usize);
             let settings = settings(&mut rng, &given);
-            let depth = rng.pick(&[0, 1, 3, 5, 6, 13]);
             let budget = rng.pick(&[0, 1, 3, 9, 500, 500, 8_191, 8_192]);
             let room = rng.pick(&[0, 2, 3, 3, 4, 4, 4, 4]);
-            let sum = rng.pick(&SUMS);
-            let [ours, plain] = [raw::choose_setting as Choose, choose_setting].map(|call| {
+            let [ours, plain] = [raw::choose_setting, PLAIN].map(|call: Choose| {
                 let mut choice = [7; CHOICE_LENGTH + 1];
-                let (sides, room) = (&given.sides, &mut choice[..room]);
-                let answer = call(given.degree, sum, sides, &settings, depth, budget, room);
+                let answer = call(&given.0, &settings, depth, budget, &mut choice[..room]);
                 (answer, choice)
             });
-            assert_eq!(
-                ours, plain,
-                "{given:?}, sum {sum}, {settings:?}, {depth}, {budget}"
-            );
+            assert_eq!(ours, plain, "{given:?}, {settings:?}, {depth}, {budget}");
             refused += usize::from(ours.0 != 0);
             summed += usize::from(ours.0 == 17);
             fits += usize::from(ours.0 == 0 && ours.1[0] == FITS);
@@ -196,7 +194,7 @@ mod tests {
     /// is refused, and one box in 64 is no box.
     fn settings(rng: &mut Rng, given: &Given) -> Vec<Setting> {
         let mut bounds = [-5, 5, -5, 5];
-        raw::bounds(given.degree, &given.sides, &mut bounds);
+        raw::bounds(&given.0, &mut bounds);
         let count = rng.pick(&[1, 1, 2, 2, 3, 3, 5, 5, 8, 8, 33, 33, 63, 64, 0, 65]);
         let setting = |_| Setting {
             limits: limits(rng, bounds).into(),

@@ -115,13 +115,19 @@ pub fn evaluate_sixteenths(
 #[cfg(test)]
 mod tests {
     use super::*;
+    use crate::calls::parts;
     use jusqani::raw;
     use second::ask::{Ask, Given};
     use second::corners::FAR_SIXTEENTHS;
     use second::draw;
     use second::rng::Rng;
 
-    type Evaluate = fn(u32, &[i32], u32, &mut [i32], &mut [f32], &mut u32) -> u64;
+    type Evaluate = fn(&[i32], u32, &mut [i32], &mut [f32], &mut u32) -> u64;
+
+    const PLAIN: Evaluate = |curve, j, load, ohms, exact| {
+        let (degree, _, sides) = parts(curve);
+        evaluate_sixteenths(degree, sides, j, load, ohms, exact)
+    };
 
     /// Also where a curve or a place is refused, or the room is too short, both answer alike and leave the
     /// same, from the same buffers.
@@ -150,10 +156,10 @@ mod tests {
 
     /// What both sides answer and leave.
     fn both(given: &Given, j: u32, room: usize, ohms_room: usize) -> [Left; 2] {
-        [raw::evaluate_sixteenths as Evaluate, evaluate_sixteenths].map(|call| {
+        [raw::evaluate_sixteenths, PLAIN].map(|call: Evaluate| {
             let (mut load, mut ohms, mut exact) = ([7; 5], [7.0; 5], 7);
             let (to, display) = (&mut load[..room], &mut ohms[..ohms_room]);
-            let answer = call(given.degree, &given.sides, j, to, display, &mut exact);
+            let answer = call(&given.0, j, to, display, &mut exact);
             (answer, load, ohms.map(f32::to_bits), exact)
         })
     }

@@ -1,4 +1,4 @@
-//! Interval Bézier curves by value, and the proved calls on them.
+//! Interval Bézier curves as the calls have them, and the proved calls on them.
 
 use crate::{raw, Choice, Refusal, Setting, CHOICE_LENGTH};
 
@@ -20,11 +20,13 @@ pub const SIXTEENTHS: u32 = 16;
 /// The numbers of a rectangle.
 pub const RECT_LENGTH: usize = 4;
 
-/// The numbers of a curve of the highest degree: its degree, its sum of steps, then its sides.
+/// The numbers of a curve of the highest degree.
 pub const CURVE_LENGTH: usize = curve_length(MAX_DEGREE);
 
-/// The numbers in front of a curve's sides: its degree and its sum of steps.
-const CURVE_HEAD: usize = 2;
+/// Where the degree of a curve stands, its sum of steps, and the first of its sides.
+const DEGREE: usize = 0;
+const SUM: usize = 1;
+const SIDES: usize = 2;
 
 /// The numbers of a verdict.
 pub const VERDICT_LENGTH: usize = 4;
@@ -37,7 +39,7 @@ const ROUNDED: u32 = 0;
 
 /// The numbers of a curve of this degree.
 pub const fn curve_length(degree: u32) -> usize {
-    CURVE_HEAD + RECT_LENGTH * (degree as usize + 1)
+    SIDES + RECT_LENGTH * (degree as usize + 1)
 }
 
 /// The bytes of the card of a curve of this degree.
@@ -95,24 +97,31 @@ impl From<Rect> for [i32; RECT_LENGTH] {
     }
 }
 
-/// A curve: its degree n, its sum of steps, and its rectangles 0 to n. Calls do not read the places past n,
-/// and give zero there.
+/// A curve as the calls take it and give it: its degree n, its sum of steps, then the sides of its rectangles 0 to
+/// n. The calls test all of it, and do not read the numbers past rectangle n.
 ///
 /// A card's curve has the sum 0, a cut adds the degree and a raising 1. For any curve reached by these from one
 /// with the sum 0, no side is farther out than the same steps without rounding give by more than the sum, and
 /// none lies short.
-#[derive(Clone, Copy, Debug, Default)]
+#[derive(Clone, Copy, Debug)]
 pub struct Curve {
-    pub degree: u32,
-    pub sum: u16,
-    pub points: [Rect; PLACES],
+    pub numbers: [i32; CURVE_LENGTH],
+}
+
+impl Default for Curve {
+    /// All zero, which is no curve: its degree is refused.
+    #[inline]
+    fn default() -> Curve {
+        let numbers = [0; CURVE_LENGTH];
+        Curve { numbers }
+    }
 }
 
 /// Two curves are equal if their degrees, their sums and their rectangles 0 to n are.
 impl PartialEq for Curve {
     fn eq(&self, other: &Curve) -> bool {
-        let heads = (self.degree, self.sum) == (other.degree, other.sum);
-        heads && self.control_points() == other.control_points()
+        let read = curve_length(self.degree().min(MAX_DEGREE));
+        self.numbers[..read] == other.numbers[..read]
     }
 }
 
@@ -177,31 +186,66 @@ impl Verdict {
     }
 }
 
-impl Curve {
-    /// The rectangles 0 to n.
+impl Evaluation {
+    /// What either reading stores.
     #[inline]
-    pub fn control_points(&self) -> &[Rect] {
-        &self.points[..PLACES.min(self.degree as usize + 1)]
+    fn of(
+        read: impl FnOnce(&mut [i32], &mut [f32], &mut u32) -> u64,
+    ) -> Result<Evaluation, Refusal> {
+        let (mut load, mut ohms, mut exact) = ([0; RECT_LENGTH], [0.0; RECT_LENGTH], ROUNDED);
+        Refusal::check(read(&mut load, &mut ohms, &mut exact))?;
+        Ok(Evaluation {
+            load: load.into(),
+            ohms,
+            exact: exact != ROUNDED,
+        })
+    }
+}
+
+impl Curve {
+    /// The curve of some rectangles with the sum 0. Their count tells the degree, which is refused where they are
+    /// fewer than two or more than nine.
+    pub fn new(points: &[Rect]) -> Curve {
+        let mut curve = Curve::default();
+        curve.numbers[DEGREE] = points.len().min(PLACES + 1) as i32 - 1;
+        let sides = points.iter().copied().flat_map(<[i32; RECT_LENGTH]>::from);
+        for (number, side) in curve.numbers[SIDES..].iter_mut().zip(sides) {
+            *number = side;
+        }
+        curve
+    }
+
+    /// The same curve with another sum of steps.
+    #[inline]
+    pub fn with_sum(mut self, sum: u16) -> Curve {
+        self.numbers[SUM] = sum.into();
+        self
+    }
+
+    /// The degree. A number below 0 counts as 0, which is refused alike.
+    #[inline]
+    pub fn degree(&self) -> u32 {
+        self.numbers[DEGREE].max(0) as u32
+    }
+
+    /// The sum of steps. A number outside 0 to 65,535 counts as 65,535.
+    #[inline]
+    pub fn sum(&self) -> u16 {
+        u16::try_from(self.numbers[SUM]).unwrap_or(u16::MAX)
+    }
+
+    /// The rectangles 0 to n.
+    pub fn control_points(&self) -> impl Iterator<Item = Rect> + '_ {
+        let places = self.numbers[SIDES..].chunks_exact(RECT_LENGTH);
+        let points = places.map(|four| Rect::from([four[0], four[1], four[2], four[3]]));
+        points.take(self.degree() as usize + 1)
     }
 
     /// The load at num/den, and whether it is exact.
     #[inline]
     pub fn evaluate(&self, num: u32, den: u32) -> Result<Evaluation, Refusal> {
-        let (mut load, mut ohms, mut exact) = ([0; RECT_LENGTH], [0.0; RECT_LENGTH], ROUNDED);
-        let answer = raw::evaluate(
-            self.degree,
-            &self.sides(),
-            num,
-            den,
-            &mut load,
-            &mut ohms,
-            &mut exact,
-        );
-        Refusal::check(answer)?;
-        Ok(Evaluation {
-            load: load.into(),
-            ohms,
-            exact: exact != ROUNDED,
+        Evaluation::of(|load, ohms, exact| {
+            raw::evaluate(&self.numbers, num, den, load, ohms, exact)
         })
     }
 
@@ -209,63 +253,37 @@ impl Curve {
     /// the one that `evaluate` gives there, and no side lies a whole step from the exact one.
     #[inline]
     pub fn evaluate_sixteenths(&self, j: u32) -> Result<Evaluation, Refusal> {
-        let (mut load, mut ohms, mut exact) = ([0; RECT_LENGTH], [0.0; RECT_LENGTH], ROUNDED);
-        let sides = self.sides();
-        let answer =
-            raw::evaluate_sixteenths(self.degree, &sides, j, &mut load, &mut ohms, &mut exact);
-        Refusal::check(answer)?;
-        Ok(Evaluation {
-            load: load.into(),
-            ohms,
-            exact: exact != ROUNDED,
+        Evaluation::of(|load, ohms, exact| {
+            raw::evaluate_sixteenths(&self.numbers, j, load, ohms, exact)
         })
     }
 
     /// The pieces up to num/den and from there on, and whether they are exact.
     #[inline]
     pub fn subdivide(&self, num: u32, den: u32) -> Result<Subdivision, Refusal> {
-        let (mut left, mut right, mut exact) = ([0; CURVE_LENGTH], [0; CURVE_LENGTH], ROUNDED);
-        let answer = raw::subdivide(
-            self.degree,
-            self.sum,
-            &self.sides(),
-            num,
-            den,
-            &mut left,
-            &mut right,
-            &mut exact,
-        );
+        let (mut pieces, mut exact) = (Subdivision::default(), ROUNDED);
+        let (left, right) = (&mut pieces.left.numbers, &mut pieces.right.numbers);
+        let answer = raw::subdivide(&self.numbers, num, den, left, right, &mut exact);
         Refusal::check(answer)?;
-        Ok(Subdivision {
-            left: Curve::of(&left),
-            right: Curve::of(&right),
-            exact: exact != ROUNDED,
-        })
+        pieces.exact = exact != ROUNDED;
+        Ok(pieces)
     }
 
     /// The curve with its degree raised by one, and whether it is exact.
     #[inline]
     pub fn elevate(&self) -> Result<Elevation, Refusal> {
-        let (mut raised, mut exact) = ([0; CURVE_LENGTH], ROUNDED);
-        let answer = raw::elevate(
-            self.degree,
-            self.sum,
-            &self.sides(),
-            &mut raised,
-            &mut exact,
-        );
+        let (mut raised, mut exact) = (Elevation::default(), ROUNDED);
+        let answer = raw::elevate(&self.numbers, &mut raised.curve.numbers, &mut exact);
         Refusal::check(answer)?;
-        Ok(Elevation {
-            curve: Curve::of(&raised),
-            exact: exact != ROUNDED,
-        })
+        raised.exact = exact != ROUNDED;
+        Ok(raised)
     }
 
     /// The least rectangle that holds all of the curve's.
     #[inline]
     pub fn bounds(&self) -> Result<Rect, Refusal> {
         let mut rect = [0; RECT_LENGTH];
-        Refusal::check(raw::bounds(self.degree, &self.sides(), &mut rect))?;
+        Refusal::check(raw::bounds(&self.numbers, &mut rect))?;
         Ok(rect.into())
     }
 
@@ -275,15 +293,7 @@ impl Curve {
     pub fn search(&self, limits: Rect, depth: u32, budget: u32) -> Result<Verdict, Refusal> {
         let limits: [i32; RECT_LENGTH] = limits.into();
         let mut verdict = [0; VERDICT_LENGTH];
-        let answer = raw::search(
-            self.degree,
-            self.sum,
-            &self.sides(),
-            &limits,
-            depth,
-            budget,
-            &mut verdict,
-        );
+        let answer = raw::search(&self.numbers, &limits, depth, budget, &mut verdict);
         Refusal::check(answer)?;
         Ok(Verdict::of(verdict))
     }
@@ -298,15 +308,7 @@ impl Curve {
         budget: u32,
     ) -> Result<Choice, Refusal> {
         let mut choice = [0; CHOICE_LENGTH];
-        let answer = raw::choose_setting(
-            self.degree,
-            self.sum,
-            &self.sides(),
-            settings,
-            depth,
-            budget,
-            &mut choice,
-        );
+        let answer = raw::choose_setting(&self.numbers, settings, depth, budget, &mut choice);
         Refusal::check(answer)?;
         Ok(Choice::of(choice))
     }
@@ -314,16 +316,16 @@ impl Curve {
     /// The curve of a card, with the sum 0.
     #[inline]
     pub fn read_card(card: &[u8]) -> Result<Curve, Refusal> {
-        let mut curve = [0; CURVE_LENGTH];
-        Refusal::check(raw::read_card(card, &mut curve))?;
-        Ok(Curve::of(&curve))
+        let mut curve = Curve::default();
+        Refusal::check(raw::read_card(card, &mut curve.numbers))?;
+        Ok(curve)
     }
 
     /// Writes the curve's card, which is without its sum, to the front of a buffer, and gives its length.
     #[inline]
     pub fn write_card(&self, card: &mut [u8]) -> Result<usize, Refusal> {
-        Refusal::check(raw::write_card(self.degree, &self.sides(), card))?;
-        Ok(card_length(self.degree))
+        Refusal::check(raw::write_card(&self.numbers, card))?;
+        Ok(card_length(self.degree()))
     }
 
     /// The curve's card.
@@ -332,32 +334,5 @@ impl Curve {
         let length = self.write_card(&mut card)?;
         card.truncate(length);
         Ok(card)
-    }
-
-    /// The sides of all nine places, as a call is given them.
-    #[inline]
-    fn sides(&self) -> [i32; RECT_LENGTH * PLACES] {
-        let mut sides = [0; RECT_LENGTH * PLACES];
-        for (four, rect) in sides.chunks_exact_mut(RECT_LENGTH).zip(self.points) {
-            four.copy_from_slice(&<[i32; RECT_LENGTH]>::from(rect));
-        }
-        sides
-    }
-
-    /// The curve that a call gave: its degree, its sum, then its sides; the call left the zeros behind them.
-    #[inline]
-    fn of(numbers: &[i32; CURVE_LENGTH]) -> Curve {
-        let mut points = [Rect::default(); PLACES];
-        for (rect, four) in points
-            .iter_mut()
-            .zip(numbers[CURVE_HEAD..].chunks_exact(RECT_LENGTH))
-        {
-            *rect = [four[0], four[1], four[2], four[3]].into();
-        }
-        Curve {
-            degree: numbers[0] as u32,
-            sum: numbers[1] as u16,
-            points,
-        }
     }
 }

@@ -8,23 +8,15 @@ const CARD: &[u8] = b"         1
 ";
 
 /// A curve with these resistance values, low equal to high, and reactance zero.
-fn values(values: &[i32]) -> Curve {
-    let mut curve = Curve {
-        degree: values.len() as u32 - 1,
-        ..Curve::default()
-    };
-    for (point, value) in curve.points.iter_mut().zip(values) {
-        *point = [*value, *value, 0, 0].into();
-    }
-    curve
+pub fn values(values: &[i32]) -> Curve {
+    let point = |value: &i32| Rect::from([*value, *value, 0, 0]);
+    Curve::new(&values.iter().map(point).collect::<Vec<_>>())
 }
 
 /// The resistance sides of a curve's rectangles.
 fn resistances(curve: Curve) -> Vec<[i32; 2]> {
-    let points = curve.control_points().iter();
-    points
-        .map(|point| [point.resistance.low, point.resistance.high])
-        .collect()
+    let resistances = curve.control_points().map(|point| point.resistance);
+    resistances.map(|side| [side.low, side.high]).collect()
 }
 
 fn refused<T>(number: u32, place: u32) -> Result<T, Refusal> {
@@ -38,8 +30,8 @@ fn evaluates_the_papers_card() {
     assert_eq!(half.load, [0, 2, -2, 0].into());
     assert_eq!(half.ohms, [0.0, 0.001953125, -0.001953125, 0.0]);
     assert_eq!(curve.evaluate(2, 4), Ok(half));
-    assert_eq!(curve.evaluate(0, 1).unwrap().load, curve.points[0]);
-    assert_eq!(curve.evaluate(7, 7).unwrap().load, curve.points[1]);
+    let ends = [(0, 1), (7, 7)].map(|(num, den)| curve.evaluate(num, den).unwrap().load);
+    assert!(curve.control_points().eq(ends));
     assert_eq!(curve.bounds(), Ok([0, 3, -3, 2].into()));
     assert_eq!(
         values(&[-1, -1]).evaluate(0, 1).unwrap().ohms[0],
@@ -52,10 +44,9 @@ fn subdivides_and_elevates() {
     let Subdivision { left, right, .. } = values(&[1, 0, 3]).subdivide(1, 2).unwrap();
     assert_eq!(resistances(left), [[1, 1], [0, 1], [0, 2]]);
     assert_eq!(resistances(right), [[0, 2], [1, 2], [3, 3]]);
-    assert_eq!(left.points[3..], [Rect::default(); 6]);
     let raised = values(&[0, 0, -1]).elevate().unwrap().curve;
     assert_eq!(resistances(raised), [[0, 0], [0, 0], [-1, 0], [-1, -1]]);
-    assert_eq!(raised.degree, 3);
+    assert_eq!(raised.degree(), 3);
     assert_eq!(values(&[0; 9]).elevate(), refused(6, 0));
 }
 
@@ -71,9 +62,8 @@ fn says_whether_nothing_was_rounded() {
     assert!(!exact(values(&[1, 0, 3]), 1, 2));
     assert!(exact(values(&[1, 0, 3]), 0, 1) && exact(values(&[1, 0, 3]), 7, 7));
     // The resistance [2, 2] is exact, but the reactance is 1/2.
-    let mut line = values(&[0, 4]);
-    line.points[1].reactance = Interval { low: 1, high: 1 };
-    assert!(!exact(line, 1, 2));
+    let line = [[0; RECT_LENGTH], [4, 4, 1, 1]].map(Rect::from);
+    assert!(!exact(Curve::new(&line), 1, 2));
     assert!(!values(&[0, 1]).elevate().unwrap().exact);
     assert!(values(&[0, 2]).elevate().unwrap().exact);
 }
@@ -142,7 +132,8 @@ fn rounds_a_sum_once() {
     assert_eq!((before.load, before.exact), ([0, 1, 0, 0].into(), false));
     for (j, end) in [(0, 0), (SIXTEENTHS, 2)] {
         let read = curve.evaluate_sixteenths(j).unwrap();
-        assert_eq!((read.load, read.exact), (curve.points[end], true));
+        let point = curve.control_points().nth(end);
+        assert_eq!((Some(read.load), read.exact), (point, true));
     }
     assert_eq!(curve.evaluate_sixteenths(17), refused(15, 0));
     assert_eq!(curve.evaluate_sixteenths(u32::MAX), refused(15, 0));
@@ -170,11 +161,7 @@ fn searches_a_box() {
         Ok(Verdict::Inside { count: 1 })
     );
     // At budget 8,191 a walk is never spent: this one looks at every piece down to depth 12.
-    let wide = Curve {
-        degree: MAX_DEGREE,
-        points: [Rect::from([-1, 1, -1, 1]); PLACES],
-        ..Curve::default()
-    };
+    let wide = Curve::new(&[Rect::from([-1, 1, -1, 1]); PLACES]);
     let all_pieces = Verdict::Undecided {
         depth: 12,
         index: 0,
@@ -194,7 +181,7 @@ fn searches_a_box() {
 }
 
 /// A list of settings with these limits and numbers.
-fn settings(records: &[([i32; RECT_LENGTH], u16)]) -> Vec<Setting> {
+pub fn settings(records: &[([i32; RECT_LENGTH], u16)]) -> Vec<Setting> {
     let setting = |&(limits, number): &([i32; RECT_LENGTH], u16)| Setting {
         limits: limits.into(),
         number,
@@ -252,20 +239,6 @@ fn refuses_a_list_in_order() {
     assert_eq!(curve.choose_setting(good, 12, 8_192), refused(9, 0));
 }
 
-/// The room for a choice is tried last, and what lies past the choice is kept.
-#[test]
-fn stores_a_choice_in_front() {
-    let good = &settings(&[([0, 5, 0, 1], 1)]);
-    let mut choice = [7; CHOICE_LENGTH + 1];
-    let sides = [0, 0, 0, 0, 4, 4, 0, 0];
-    let short = raw::choose_setting(1, 0, &sides, good, 12, 5, &mut choice[..2]);
-    assert_eq!((short, choice), (12 | 3 << 32, [7; 4]));
-    let short = raw::choose_setting(1, 0, &sides, good, 12, 0, &mut choice[..2]);
-    assert_eq!((short, choice), (9, [7; 4]));
-    let chosen = raw::choose_setting(1, 0, &sides, good, 12, 5, &mut choice);
-    assert_eq!((chosen, choice), (0, [1, 0, 1, 7]));
-}
-
 #[test]
 fn writes_the_card_that_it_reads() {
     let curve = Curve::read_card(CARD).unwrap();
@@ -285,48 +258,59 @@ fn refuses_along_the_limits() {
     assert_eq!(end.evaluate(0, MAX_DEN + 1), refused(4, 0));
     assert_eq!(end.evaluate(8, 7), refused(5, 0));
     assert_eq!(values(&[0, MAX_SIDE + 1]).bounds(), refused(2, 1));
-    assert_eq!(Curve::default().bounds(), refused(1, 0));
+    let points = [Rect::default(); PLACES + 2];
+    for count in [0, 1, PLACES + 1, PLACES + 2] {
+        assert_eq!(Curve::new(&points[..count]).bounds(), refused(1, 0));
+    }
 }
 
 #[test]
 fn compares_curves_up_to_their_degree() {
     let mut other = values(&[1, 2]);
-    other.points[2] = [5, 6, 7, 8].into();
+    other.numbers[curve_length(1)] = 5;
     assert_eq!(other, values(&[1, 2]));
     assert_ne!(values(&[1, 2, 0]), values(&[1, 2]));
-    assert_ne!(with_sum(1, values(&[1, 2])), values(&[1, 2]));
-}
-
-/// The same curve with another sum of steps.
-fn with_sum(sum: u16, curve: Curve) -> Curve {
-    Curve { sum, ..curve }
+    assert_ne!(values(&[1, 2]).with_sum(1), values(&[1, 2]));
 }
 
 /// Document 02, point 7. A cut adds the degree in both pieces, and a raising 1.
 #[test]
 fn adds_up_the_steps() {
     let curve = Curve::read_card(CARD).unwrap();
-    assert_eq!(curve.sum, 0);
+    assert_eq!(curve.sum(), 0);
     let raised = curve.elevate().unwrap().curve;
-    assert_eq!((raised.degree, raised.sum), (2, 1));
+    assert_eq!((raised.degree(), raised.sum()), (2, 1));
     let Subdivision { left, right, .. } = raised.subdivide(1, 3).unwrap();
-    assert_eq!([left.sum, right.sum], [3, 3]);
+    assert_eq!([left.sum(), right.sum()], [3, 3]);
     let last = right.subdivide(0, 1).unwrap().right;
-    assert_eq!((last.degree, last.sum), (2, 5));
+    assert_eq!((last.degree(), last.sum()), (2, 5));
     let raised = last.elevate().unwrap().curve;
-    assert_eq!((raised.degree, raised.sum), (3, 6));
+    assert_eq!((raised.degree(), raised.sum()), (3, 6));
 }
 
 #[test]
 fn refuses_a_sum_past_its_end() {
     let wave = values(&[0, 4, 0, 4, 0, 4, 0, 4, 0]);
-    let Subdivision { left, right, .. } = with_sum(65_527, wave).subdivide(1, 2).unwrap();
-    assert_eq!([left.sum, right.sum], [u16::MAX; 2]);
-    assert_eq!(with_sum(65_528, wave).subdivide(1, 2), refused(17, 0));
+    let Subdivision { left, right, .. } = wave.with_sum(65_527).subdivide(1, 2).unwrap();
+    assert_eq!([left.sum(), right.sum()], [u16::MAX; 2]);
+    assert_eq!(wave.with_sum(65_528).subdivide(1, 2), refused(17, 0));
     let line = values(&[0, 4]);
-    let raised = with_sum(65_534, line).elevate().unwrap().curve;
-    assert_eq!(raised.sum, u16::MAX);
-    assert_eq!(with_sum(65_535, line).elevate(), refused(17, 0));
+    let raised = line.with_sum(65_534).elevate().unwrap().curve;
+    assert_eq!(raised.sum(), u16::MAX);
+    assert_eq!(line.with_sum(65_535).elevate(), refused(17, 0));
+}
+
+/// A sum outside 0 to 65,535 counts as 65,535.
+#[test]
+fn counts_a_sum_out_of_range_as_the_largest() {
+    for sum in [-1, i32::MIN, 65_536, i32::MAX] {
+        let mut line = values(&[0, 4]);
+        line.numbers[1] = sum;
+        assert_eq!(line.sum(), u16::MAX);
+        assert_eq!(line.elevate(), refused(17, 0));
+        let inside = Ok(Verdict::Inside { count: 1 });
+        assert_eq!(line.search([0, 5, 0, 1].into(), 0, 1), inside);
+    }
 }
 
 /// Whatever a walk finds, a piece at its depth limit has to have a sum.
@@ -335,7 +319,7 @@ fn refuses_a_walk_whose_sum_could_pass_its_end() {
     let wave = values(&[0, 4, 0, 4, 0, 4, 0, 4, 0]);
     let whole = [0, 5, 0, 1];
     let inside = Ok(Verdict::Inside { count: 1 });
-    let search = |sum, depth| with_sum(sum, wave).search(whole.into(), depth, 1);
+    let search = |sum, depth| wave.with_sum(sum).search(whole.into(), depth, 1);
     assert_eq!(search(65_535, 0), inside);
     assert_eq!(search(65_535, 1), refused(17, 0));
     assert_eq!(search(65_439, 12), inside);
@@ -343,7 +327,7 @@ fn refuses_a_walk_whose_sum_could_pass_its_end() {
     let list = settings(&[(whole, 7)]);
     let (index, number) = (0, 7);
     let fits = Ok(Choice::Fits { index, number });
-    let choose = |sum, depth| with_sum(sum, wave).choose_setting(&list, depth, 1);
+    let choose = |sum, depth| wave.with_sum(sum).choose_setting(&list, depth, 1);
     assert_eq!(choose(65_535, 0), fits);
     assert_eq!(choose(65_535, 1), refused(17, 0));
     assert_eq!(choose(65_439, 12), fits);
@@ -353,7 +337,7 @@ fn refuses_a_walk_whose_sum_could_pass_its_end() {
 /// 17 is the last of a call's own refusals, and comes before the room alone.
 #[test]
 fn refuses_a_sum_last() {
-    let full = |resistances: &[i32]| with_sum(u16::MAX, values(resistances));
+    let full = |resistances: &[i32]| values(resistances).with_sum(u16::MAX);
     let line = full(&[0, 4]);
     assert_eq!(full(&[0, MAX_SIDE + 1]).elevate(), refused(2, 1));
     assert_eq!(line.subdivide(1, 0), refused(4, 0));
@@ -368,18 +352,18 @@ fn refuses_a_sum_last() {
     assert_eq!(line.choose_setting(&list, 12, 1), refused(7, 1));
     assert_eq!(line.choose_setting(&list[..1], 13, 1), refused(8, 0));
     assert_eq!(line.choose_setting(&list[..1], 12, 0), refused(9, 0));
-    let sides = [0, 0, 0, 0, 4, 4, 0, 0];
     let (mut left, mut right, mut exact) = ([7; 9], [7; 10], 7);
-    let mut cut = |sum| raw::subdivide(1, sum, &sides, 1, 2, &mut left, &mut right, &mut exact);
-    assert_eq!([cut(u16::MAX), cut(65_534)], [17, 12 | 10 << 32]);
+    let mut cut =
+        |curve: Curve| raw::subdivide(&curve.numbers, 1, 2, &mut left, &mut right, &mut exact);
+    assert_eq!([cut(line), cut(line.with_sum(65_534))], [17, 12 | 10 << 32]);
     assert_eq!((left, right, exact), ([7; 9], [7; 10], 7));
 }
 
-/// A call that is not given the sum never looks at it.
+/// These calls never look at the sum.
 #[test]
 fn reads_and_writes_at_any_sum() {
     let curve = Curve::read_card(CARD).unwrap();
-    let full = with_sum(u16::MAX, curve);
+    let full = curve.with_sum(u16::MAX);
     assert_eq!(full.evaluate(1, 2), curve.evaluate(1, 2));
     assert_eq!(full.evaluate_sixteenths(3), curve.evaluate_sixteenths(3));
     assert_eq!(full.bounds(), curve.bounds());
@@ -390,8 +374,8 @@ fn reads_and_writes_at_any_sum() {
 #[test]
 fn saves_a_piece_without_its_sum() {
     let piece = values(&[1, 0, 3]).subdivide(1, 2).unwrap().right;
-    assert_eq!(piece.sum, 2);
+    assert_eq!(piece.sum(), 2);
     let again = Curve::read_card(&piece.card().unwrap()).unwrap();
-    assert_eq!(again, with_sum(0, piece));
+    assert_eq!(again, piece.with_sum(0));
     assert_ne!(again, piece);
 }

@@ -27,7 +27,7 @@ impl Answers {
 
     /// The most steps by which a side of a staged reading is beyond the exact one.
     pub fn steps(&self) -> u32 {
-        u32::from(self.curve.sum) + self.curve.degree
+        u32::from(self.curve.sum()) + self.curve.degree()
     }
 }
 

@@ -14,7 +14,7 @@ const SCRIPT: &str = include_str!("picture.gnuplot");
 pub fn text(name: &str, answers: &Answers, chosen: Option<&Chosen>) -> String {
     let mut text = Text::default();
     text.line("# Sides are in steps of 1/1,024 ohm, as the calls answer them.");
-    let title = words::title(name, answers.curve.degree);
+    let title = words::title(name, answers.curve.degree());
     text.words("title", &[title, words::guarantee(answers.steps())]);
     curve(&mut text, answers);
     regions::all(&mut text, answers);
@@ -27,14 +27,14 @@ pub fn text(name: &str, answers: &Answers, chosen: Option<&Chosen>) -> String {
 }
 
 fn curve(text: &mut Text, answers: &Answers) {
-    text.number("degree", answers.curve.degree);
+    text.number("degree", answers.curve.degree());
     let sides: [i32; RECT_LENGTH] = answers.span.into();
     let names = ["r_low", "r_high", "x_low", "x_high"];
     for (name, side) in names.into_iter().zip(sides) {
         text.number(name, side);
     }
-    let control = answers.curve.control_points().iter().zip(0..);
-    let control = control.map(|(rect, k)| row(&[k], *rect, &[]));
+    let control = answers.curve.control_points().zip(0..);
+    let control = control.map(|(rect, k)| row(&[k], rect, &[]));
     text.block("control", "k, four sides", control);
     text.block("staged", READING, readings(&answers.staged));
     text.block("summed", READING, readings(&answers.summed));

@@ -101,7 +101,7 @@ fn draw(asked: &Drawing) -> Result<(), Failure> {
         return deliver(&text, output);
     }
     let picture = gnuplot::picture(&text).map_err(failed)?;
-    let title = words::title(&name, curve.degree);
+    let title = words::title(&name, curve.degree());
     deliver(&gnuplot::titled(&picture, &title), output)
 }
 

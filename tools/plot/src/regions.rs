@@ -10,7 +10,8 @@ use crate::words;
 
 pub fn all(text: &mut Text, answers: &Answers) {
     let (staged, summed) = (loads(&answers.staged), loads(&answers.summed));
-    outlines(text, "control_outlines", answers.curve.control_points());
+    let control: Vec<Rect> = answers.curve.control_points().collect();
+    outlines(text, "control_outlines", &control);
     outlines(text, "span_outline", &[answers.span]);
     outlines(text, "staged_outlines", &staged);
     outlines(text, "summed_outlines", &summed);
@@ -25,8 +26,7 @@ pub fn all(text: &mut Text, answers: &Answers) {
     text.words("beyond", &words::beyond(unseen, open));
     let half = free_half(staged.iter().flat_map(|load| points(*load)));
     text.number("side", half);
-    let kept = [answers.curve.control_points(), &staged].concat();
-    ratios(text, half, &kept);
+    ratios(text, half, &[&control[..], &staged].concat());
     ends(text, staged[0], staged[SIXTEENTHS as usize]);
 }
 

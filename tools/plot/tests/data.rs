@@ -37,12 +37,12 @@ fn has_the_readings_the_control_rectangles_and_the_span() {
             data.rows("summed"),
             readings(|j| curve.evaluate_sixteenths(j).unwrap())
         );
-        let control = curve.control_points().iter().zip(0..);
-        let control = control.map(|(rect, k)| [vec![k], sides(*rect)].concat());
+        let control = curve.control_points().zip(0..);
+        let control = control.map(|(rect, k)| [vec![k], sides(rect)].concat());
         assert_eq!(data.rows("control"), control.collect::<Vec<_>>());
         let span = ["r_low", "r_high", "x_low", "x_high"].map(|name| data.numbers[name]);
         assert_eq!(span.to_vec(), sides(curve.bounds().unwrap()));
-        assert_eq!(data.numbers["degree"], curve.degree.into());
+        assert_eq!(data.numbers["degree"], curve.degree().into());
         assert_eq!(data.numbers["settings"], 0);
     }
 }
@@ -50,7 +50,7 @@ fn has_the_readings_the_control_rectangles_and_the_span() {
 #[test]
 fn has_the_name_the_degree_and_the_guarantee() {
     for card in examples("", "card") {
-        let (degree, data) = (curve_of(&card).degree, Data::of(&[&card]));
+        let (degree, data) = (curve_of(&card).degree(), Data::of(&[&card]));
         let unit = if degree == 1 { "step" } else { "steps" };
         let name = card.file_stem().unwrap().to_str().unwrap();
         let title = [

@@ -49,7 +49,7 @@ impl Session {
     pub fn open(card: &[u8], places: bool) -> (Session, Answer) {
         let read = Curve::read_card(card);
         let answer = read.map_or_else(Answer::refused, |curve| {
-            Answer::of(vec![0, curve.degree.into()])
+            Answer::of(vec![0, curve.degree().into()])
         });
         let session = Session {
             curve: read.unwrap_or_default(),
@@ -95,8 +95,8 @@ impl Session {
     /// degree.
     fn reading(&self, read: Evaluation, num: u32, den: u32) -> Answer {
         let mut numbers = vec![0];
-        numbers.extend(sides(&[read.load]));
-        numbers.push(i64::from(self.curve.sum) + i64::from(self.curve.degree));
+        numbers.extend(sides([read.load]));
+        numbers.push(i64::from(self.curve.sum()) + i64::from(self.curve.degree()));
         numbers.push(read.exact.into());
         let place = self.stretch.as_ref().and_then(|s| s.place(num, den));
         Answer { numbers, place }
@@ -111,11 +111,11 @@ impl Session {
             Kept::Left => left,
             Kept::Right => right,
         };
-        let mut numbers = vec![0, left.degree.into()];
+        let mut numbers = vec![0, left.degree().into()];
         numbers.extend(sides(left.control_points()));
         numbers.extend(sides(right.control_points()));
         // Both pieces have the same sum.
-        numbers.push(left.sum.into());
+        numbers.push(left.sum().into());
         numbers.push(exact.into());
         Ok(Answer::of(numbers))
     }
@@ -123,16 +123,16 @@ impl Session {
     fn elevate(&mut self) -> Result<Answer, Refusal> {
         let Elevation { curve, exact } = self.curve.elevate()?;
         self.curve = curve;
-        let mut numbers = vec![0, curve.degree.into()];
+        let mut numbers = vec![0, curve.degree().into()];
         numbers.extend(sides(curve.control_points()));
-        numbers.push(curve.sum.into());
+        numbers.push(curve.sum().into());
         numbers.push(exact.into());
         Ok(Answer::of(numbers))
     }
 
     fn bounds(&self) -> Result<Answer, Refusal> {
         let mut numbers = vec![0];
-        numbers.extend(sides(&[self.curve.bounds()?]));
+        numbers.extend(sides([self.curve.bounds()?]));
         Ok(Answer::of(numbers))
     }
 
@@ -173,16 +173,15 @@ impl Session {
 
     /// Gives the curve another sum of steps, whatever curve it is.
     fn set_sum(&mut self, sum: u16) -> Answer {
-        self.curve.sum = sum;
+        self.curve = self.curve.with_sum(sum);
         Answer::of(vec![0, sum.into()])
     }
 }
 
 /// The sides of some rectangles, in their order.
-fn sides(rects: &[Rect]) -> impl Iterator<Item = i64> + '_ {
-    rects
-        .iter()
-        .flat_map(|rect| <[i32; 4]>::from(*rect).map(i64::from))
+fn sides(rects: impl IntoIterator<Item = Rect>) -> impl Iterator<Item = i64> {
+    let sides = rects.into_iter().flat_map(<[i32; 4]>::from);
+    sides.map(i64::from)
 }
 
 #[cfg(test)]

@@ -25,13 +25,10 @@ pub enum Ask {
     Panel { card: Vec<u8>, t: Parameter },
 }
 
-/// A curve as a call is lent it: a degree, a sum of steps, and sides that may be too few or too many.
+/// A curve as a call is lent it: its degree, its sum of steps, then its sides. It may be cut short anywhere, and
+/// there may be more numbers behind it.
 #[derive(Clone, PartialEq, Debug)]
-pub struct Given {
-    pub degree: u32,
-    pub sum: u16,
-    pub sides: Vec<i32>,
-}
+pub struct Given(pub Vec<i32>);
 
 /// Single-precision numbers, equal where their bits are.
 #[derive(Clone, Debug)]
@@ -56,7 +53,7 @@ impl PartialEq for Ohms {
 /// A side that a lent slice lacks counts as one out of range.
 const LACKING: i64 = MAX_SIDE + 1;
 
-/// The degree and the sum stand before the sides of a curve that a call gives.
+/// The degree and the sum stand before the sides of a curve.
 const BEFORE_SIDES: usize = 2;
 
 /// What a choice and the bridge's call find.
@@ -68,41 +65,31 @@ const RECTANGLE: u32 = 2;
 impl Given {
     /// A curve with just its sides, which must be 32-bit numbers.
     pub fn of(curve: &Curve) -> Given {
-        let sides = curve.control_points().as_flattened();
-        Given::new(curve.degree, curve.sum, sides)
+        Given::stored(&curve_words(curve))
     }
 
-    /// The curve that a call stored in front of a buffer.
+    /// The curve that a call stored, handed on as it is.
     pub fn stored(words: &[i64]) -> Given {
-        let degree = words[0] as usize;
-        Given::new(
-            degree,
-            words[1] as u16,
-            &words[BEFORE_SIDES..curve_length(degree)],
-        )
+        Given(words.iter().map(|word| *word as i32).collect())
     }
 
-    fn new(degree: usize, sum: u16, sides: &[i64]) -> Given {
-        let sides = sides.iter().map(|side| *side as i32).collect();
-        let degree = degree as u32;
-        Given { degree, sum, sides }
-    }
-
-    /// The curve that this is. Sides past rectangle n are not read.
+    /// The curve that this is. A degree that is lacking or below 0 counts as 0, which is refused alike, and a sum
+    /// that is lacking or out of range as the largest. Numbers past rectangle n are not read.
     pub fn curve(&self) -> Curve {
-        let mut curve = Curve::ZERO.with_sum(self.sum);
-        curve.degree = self.degree as usize;
+        let number = |place: usize| self.0.get(place).copied();
+        let sum = number(1).and_then(|sum| u16::try_from(sum).ok());
+        let mut curve = Curve::ZERO.with_sum(sum.unwrap_or(u16::MAX));
+        curve.degree = number(0).map_or(0, |degree| degree.max(0) as usize);
         let places = 4 * (MAX_DEGREE.min(curve.degree) + 1);
-        let sides = self.sides.iter().map(|side| i64::from(*side));
-        let read = sides.chain(std::iter::repeat(LACKING)).take(places);
-        for (place, side) in curve.points.as_flattened_mut().iter_mut().zip(read) {
-            *place = side;
+        let sides = curve.points.as_flattened_mut()[..places].iter_mut();
+        for (side, place) in sides.zip(BEFORE_SIDES..) {
+            *side = number(place).map_or(LACKING, i64::from);
         }
         curve
     }
 }
 
-/// The numbers of a curve that a call gives.
+/// The numbers of a curve.
 pub const fn curve_length(degree: usize) -> usize {
     BEFORE_SIDES + 4 * (degree + 1)
 }
@@ -130,7 +117,7 @@ impl Ask {
     pub fn kind(&self, stored: &Stored) -> usize {
         match self {
             Ask::Search { .. } | Ask::ChooseSetting { .. } => stored.buffers[0][0] as usize - 1,
-            Ask::Enclose { ohms } => ohms.0.len().saturating_sub(1).min(2),
+            Ask::Enclose { ohms } => ohms.0.len().saturating_sub(1),
             _ => stored.flag.unwrap_or(0) as usize,
         }
     }
@@ -156,7 +143,7 @@ impl Ask {
             Ask::ReadCard { card } | Ask::Panel { card, .. } => {
                 (card.len() - FIRST_LINE) / LINE - 1
             }
-            _ => self.curve().map_or(0, |curve| curve.degree as usize),
+            _ => self.curve().map_or(0, |curve| curve.curve().degree),
         }
     }
 
@@ -206,30 +193,21 @@ impl Ask {
     #[rustfmt::skip]
     pub fn by_library(&self, lent: &mut Lent) -> u64 {
         match self {
-            Ask::Evaluate { curve: c, t } => lent.two(|load, ohms, exact| {
-                raw::evaluate(c.degree, &c.sides, t.num, t.den, load, ohms, exact)
-            }),
-            Ask::EvaluateSixteenths { curve: c, j } => lent.two(|load, ohms, exact| {
-                raw::evaluate_sixteenths(c.degree, &c.sides, *j, load, ohms, exact)
-            }),
-            Ask::Subdivide { curve: c, t } => lent.two(|left, right, exact| {
-                raw::subdivide(c.degree, c.sum, &c.sides, t.num, t.den, left, right, exact)
-            }),
-            Ask::Elevate { curve: c } => {
-                lent.one(|raised, exact| raw::elevate(c.degree, c.sum, &c.sides, raised, exact))
-            }
-            Ask::Bounds { curve: c } => lent.one(|rect, _| raw::bounds(c.degree, &c.sides, rect)),
-            Ask::Search { curve: c, limits, effort: e } => lent.one(|verdict, _| {
-                raw::search(c.degree, c.sum, &c.sides, limits, e.depth, e.budget, verdict)
-            }),
-            Ask::ChooseSetting { curve: c, settings: s, effort: e } => lent.one(|choice, _| {
-                raw::choose_setting(c.degree, c.sum, &c.sides, s, e.depth, e.budget, choice)
-            }),
+            Ask::Evaluate { curve: c, t } =>
+                lent.two(|load, ohms, exact| raw::evaluate(&c.0, t.num, t.den, load, ohms, exact)),
+            Ask::EvaluateSixteenths { curve: c, j } =>
+                lent.two(|load, ohms, exact| raw::evaluate_sixteenths(&c.0, *j, load, ohms, exact)),
+            Ask::Subdivide { curve: c, t } =>
+                lent.two(|left, right, exact| raw::subdivide(&c.0, t.num, t.den, left, right, exact)),
+            Ask::Elevate { curve: c } => lent.one(|raised, exact| raw::elevate(&c.0, raised, exact)),
+            Ask::Bounds { curve: c } => lent.one(|rect, _| raw::bounds(&c.0, rect)),
+            Ask::Search { curve: c, limits, effort: e } =>
+                lent.one(|verdict, _| raw::search(&c.0, limits, e.depth, e.budget, verdict)),
+            Ask::ChooseSetting { curve: c, settings, effort: e } =>
+                lent.one(|choice, _| raw::choose_setting(&c.0, settings, e.depth, e.budget, choice)),
             Ask::Enclose { ohms } => lent.one(|rect, found| raw::enclose(&ohms.0, rect, found)),
             Ask::ReadCard { card } => lent.one(|curve, _| raw::read_card(card, curve)),
-            Ask::WriteCard { curve: c } => {
-                lent.one(|card, _| raw::write_card(c.degree, &c.sides, card))
-            }
+            Ask::WriteCard { curve: c } => lent.one(|card, _| raw::write_card(&c.0, card)),
             Ask::Panel { card, t } => lent.one(|out, _| raw::panel(card, t.num, t.den, out).into()),
         }
     }
@@ -287,13 +265,31 @@ fn settings_of(settings: &[Setting], effort: Effort) -> Settings {
 }
 
 /// What the bridge delivered, by how many numbers are lent: a reactance that is lacking counts as not a number,
-/// and numbers past the third are not read.
+/// and of more than three numbers the spread.
 fn measurement(ohms: &[u32]) -> Measurement {
     const NOT_A_NUMBER: u32 = 0x7fc0_0000;
     match *ohms {
         [] => Measurement::NoCarrier,
         [r] => Measurement::Load([r, NOT_A_NUMBER]),
         [r, x] => Measurement::Load([r, x]),
-        [r, x, spread, ..] => Measurement::LoadWithSpread([r, x, spread]),
+        [r, x, spread] => Measurement::LoadWithSpread([r, x, spread]),
+        [r, x, ..] => Measurement::LoadWithSpread([r, x, NOT_A_NUMBER]),
+    }
+}
+
+#[cfg(test)]
+mod tests {
+    use super::*;
+
+    #[test]
+    fn reads_a_curve_from_any_numbers() {
+        let line = [1, 65_536, 0, 0, 0, 0, 4, 4, 0, 0, i32::MIN];
+        let read = |length: usize| Given(line[..length].to_vec()).curve();
+        let refused = [0, 1, 2, 5, 6, 9].map(|length| read(length).check().unwrap_err());
+        let refused = refused.map(|refusal| (refusal.number, refusal.place));
+        assert_eq!(refused, [(1, 0), (2, 0), (2, 0), (2, 0), (2, 1), (2, 1)]);
+        let curve = Curve::new(&[[0; 4], [4, 4, 0, 0]]).with_sum(65_535);
+        assert_eq!([read(10), read(11)], [curve; 2]);
+        assert_eq!(Given(vec![-1, -1]).curve().check().unwrap_err().number, 1);
     }
 }

@@ -27,9 +27,15 @@ pub const FAR_COLUMNS: [i64; 6] = [
 
 /// Degrees that are refused, some of them with a degree in their low bits.
 #[rustfmt::skip]
-pub const FAR_DEGREES: [u32; 8] = [
-    0, MAX_DEGREE as u32 + 1, MAX_DEGREE as u32 + 2, 257, 65_538, 1 << 31, (1 << 31) + 3, u32::MAX,
+pub const FAR_DEGREES: [i32; 10] = [
+    0, MAX_DEGREE as i32 + 1, MAX_DEGREE as i32 + 2, 257, 65_538, i32::MAX, -1, -253, i32::MIN, i32::MIN + 3,
 ];
+
+/// Sums out of range, some of them with a small sum in their low bits.
+const FAR_SUMS: [i32; 7] = [65_536, 65_545, i32::MAX, -1, -9, -65_536, i32::MIN];
+
+/// Lengths of a measurement, mostly accepted ones. The last has one in its low bits.
+pub const MEASURED: [usize; 16] = [0, 1, 2, 2, 2, 2, 2, 2, 3, 3, 3, 3, 3, 4, 5, 258];
 
 /// Accepted parameters: the ends and the middle in several terms, and beside the ends.
 #[rustfmt::skip]
@@ -85,10 +91,15 @@ pub fn length(rng: &mut Rng, needed: usize) -> usize {
     }
 }
 
-/// A sum of steps with which a call that needs so many more just reaches the largest, stays one below or passes
-/// it.
-pub fn sum_about(rng: &mut Rng, more: usize) -> u16 {
-    (MAX_SUM - more + rng.up_to(2) - 1).min(MAX_SUM) as u16
+/// A sum of steps. With one in four a call that adds so many just reaches the largest, stays one below or passes it,
+/// and some are out of range.
+pub fn sum(rng: &mut Rng, more: usize) -> i32 {
+    match rng.below(16) {
+        0..=3 => (MAX_SUM - more + rng.up_to(2) - 1).min(MAX_SUM) as i32,
+        4 => rng.pick(&FAR_SUMS),
+        5..=11 => rng.pick(&[0, 1, 255, 256, 32_767, 32_768]),
+        _ => (rng.draw() as u16).into(),
+    }
 }
 
 const FRACTION: u32 = (1 << 23) - 1;

@@ -124,7 +124,7 @@ pub fn check(trial: &mut Trial) -> Result<(), String> {
         // A buffer that is too short refuses a call too, which the book is not told of.
         if let Some(stored) = trial.ask(&ask)? {
             curve = change.left(&stored);
-            if !book.feed(&change) || curve.sum as usize != book.carried {
+            if !book.feed(&change) || usize::from(curve.curve().sum) != book.carried {
                 return Err(format!(
                     "the book has another sum or refusal\n{ask:?}\n{stored:?}"
                 ));

@@ -16,8 +16,7 @@ pub fn evaluate(rng: &mut Rng) -> Ask {
 }
 
 pub fn subdivide(rng: &mut Rng) -> Ask {
-    let (mut curve, t) = curve_and_parameter(rng);
-    curve.sum = sum(rng, (curve.degree as usize).min(MAX_DEGREE));
+    let (curve, t) = curve_and_parameter(rng);
     Ask::Subdivide { curve, t }
 }
 
@@ -31,7 +30,7 @@ pub fn evaluate_sixteenths(rng: &mut Rng) -> Ask {
         0 => exact_curve(rng, degree, 16 >> j.trailing_zeros().min(4)),
         _ => curve(rng, degree),
     };
-    let curve = given(rng, drawn);
+    let curve = given(rng, drawn, 0);
     Ask::EvaluateSixteenths { curve, j }
 }
 
@@ -41,18 +40,17 @@ pub fn elevate(rng: &mut Rng) -> Ask {
         0 => exact_curve(rng, degree, degree as i64 + 1),
         _ => curve(rng, degree),
     };
-    let mut curve = given(rng, drawn);
-    curve.sum = sum(rng, 1);
+    let curve = given(rng, drawn, 1);
     Ask::Elevate { curve }
 }
 
 pub fn bounds(rng: &mut Rng) -> Ask {
-    let curve = any_given(rng);
+    let curve = any_given(rng, 0);
     Ask::Bounds { curve }
 }
 
 pub fn write_card(rng: &mut Rng) -> Ask {
-    let curve = any_given(rng);
+    let curve = any_given(rng, 0);
     Ask::WriteCard { curve }
 }
 
@@ -113,7 +111,7 @@ pub fn choose_setting(rng: &mut Rng) -> Ask {
 }
 
 pub fn enclose(rng: &mut Rng) -> Ask {
-    let mut numbers = [load(rng), load(rng), spread(rng), rng.draw() as u32];
+    let mut numbers = vec![load(rng), load(rng), spread(rng)];
     if rng.one_in(4) {
         // A side that the spread brings to its limit, one step less or one more.
         let most = 1 << rng.up_to(24);
@@ -125,10 +123,9 @@ pub fn enclose(rng: &mut Rng) -> Ask {
             numbers[rng.up_to(1)] = ohm_bits(rng.between(-1_000, 1_000));
         }
     }
-    let length = rng.pick(&[0, 1, 2, 2, 2, 2, 3, 3, 3, 3, 3, 4]);
-    Ask::Enclose {
-        ohms: Ohms::of(&numbers[..length]),
-    }
+    numbers.resize(rng.pick(&MEASURED), load(rng));
+    let ohms = Ohms::of(&numbers);
+    Ask::Enclose { ohms }
 }
 
 pub fn read_card(rng: &mut Rng) -> Ask {
@@ -175,30 +172,32 @@ fn sides(rng: &mut Rng, style: u64) -> (i64, i64) {
     }
 }
 
-/// A curve as a call is lent it: one in twelve is spoilt, some have another degree, and now and then there are too
-/// few sides or too many.
-pub fn given(rng: &mut Rng, mut curve: Curve) -> Given {
+/// A curve as a call is lent it, with a sum to which so many steps are added: one in twelve is spoilt, some have
+/// another degree, and now and then there are too few numbers or too many.
+pub fn given(rng: &mut Rng, mut curve: Curve, more: usize) -> Given {
     if rng.one_in(12) {
         spoil(rng, &mut curve, &FAR_SIDES);
     }
     let mut given = Given::of(&curve);
-    given.sum = rng.draw() as u16;
+    given.0[1] = sum(rng, more);
     if rng.one_in(64) {
-        given.degree = rng.pick(&FAR_DEGREES);
+        given.0[0] = rng.pick(&FAR_DEGREES);
     }
     match rng.below(32) {
-        0 => given.sides.truncate(rng.up_to(given.sides.len() - 1)),
-        1 => drop(given.sides.pop()),
-        2..=8 => (0..=rng.up_to(5)).for_each(|_| given.sides.push(rng.draw() as i32)),
+        0 => given.0.truncate(rng.up_to(given.0.len() - 1)),
+        1 => given.0.truncate(rng.up_to(2)),
+        2 => drop(given.0.pop()),
+        3..=9 => (0..=rng.up_to(5)).for_each(|_| given.0.push(rng.draw() as i32)),
         _ => {}
     }
     given
 }
 
-fn any_given(rng: &mut Rng) -> Given {
+/// A curve that is cut so many times in turn.
+fn any_given(rng: &mut Rng, cuts: usize) -> Given {
     let degree = degree(rng);
     let drawn = curve(rng, degree);
-    given(rng, drawn)
+    given(rng, drawn, degree * cuts)
 }
 
 /// Puts sides out of range, or a low above its high, in one to three points.
@@ -215,21 +214,12 @@ fn spoil(rng: &mut Rng, curve: &mut Curve, far: &[i64]) {
     }
 }
 
-/// A sum of steps, one in four about the largest for a call that needs so many more.
-fn sum(rng: &mut Rng, more: usize) -> u16 {
-    match rng.below(8) {
-        0 | 1 => sum_about(rng, more),
-        2..=5 => rng.pick(&[0, 1, 255, 256, 32_767, 32_768]),
-        _ => rng.draw() as u16,
-    }
-}
-
 /// A curve and a parameter, one in four such that no stage rounds.
 fn curve_and_parameter(rng: &mut Rng) -> (Given, Parameter) {
     let degree = degree(rng);
     if !rng.one_in(4) {
         let drawn = curve(rng, degree);
-        return (given(rng, drawn), parameter(rng));
+        return (given(rng, drawn, degree), parameter(rng));
     }
     let den = rng.pick(&EXACT_DENS);
     let drawn = exact_curve(rng, degree, den);
@@ -237,7 +227,7 @@ fn curve_and_parameter(rng: &mut Rng) -> (Given, Parameter) {
     let largest = MAX_DEN / den;
     let multiple = rng.pick(&[1, 2, largest]).min(largest);
     let (num, den) = (multiple * num, multiple * den);
-    (given(rng, drawn), Parameter { num, den })
+    (given(rng, drawn, degree), Parameter { num, den })
 }
 
 /// A parameter, one in twelve of them refused.
@@ -302,7 +292,6 @@ fn moved(rng: &mut Rng, mut curve: Curve) -> Curve {
 
 /// A curve with a depth and a budget, and a sum that fits them or just does not. To save time few are deep.
 fn walk(rng: &mut Rng, deepest: u32) -> (Given, Effort) {
-    let mut curve = any_given(rng);
     let depth = match rng.below(200) {
         0..=9 => rng.pick(&FAR_DEPTHS),
         10 => deepest,
@@ -315,8 +304,7 @@ fn walk(rng: &mut Rng, deepest: u32) -> (Given, Effort) {
         6 => rng.between(1, MAX_BUDGET.into()) as u32,
         _ => 500,
     };
-    let degree = (curve.degree as usize).min(MAX_DEGREE);
-    curve.sum = sum(rng, degree * depth.min(MAX_DEPTH) as usize);
+    let curve = any_given(rng, depth.min(MAX_DEPTH) as usize);
     (curve, Effort { depth, budget })
 }
 

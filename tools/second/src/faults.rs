@@ -44,7 +44,7 @@ const FAULTS: [(&str, Fault); 28] = [
     ("a word stored past a result", |ask, a, l| if *a == 0 && ask.row() == 4 { add(l, 0, 4, 1) }),
     ("a byte stored past a card", |ask, a, l| if *a == 0 && ask.row() == 9 { add(l, 0, 11 + 41 * (ask.degree() + 1), 1) }),
     ("a word stored behind the buffer", |_, a, l| if *a == 0 { let k = l.buffers[0].length; l.buffers[0].words[k] ^= 1 }),
-    ("a side changed that was lent for reading", |ask, _, _| if let Ask::Search { curve, .. } = ask { curve.sides.reverse() }),
+    ("a side changed that was lent for reading", |ask, _, _| if let Ask::Search { curve, .. } = ask { curve.0.reverse() }),
     ("the pieces swapped", |ask, _, l| if ask.row() == 2 { l.buffers.swap(0, 1) }),
     ("a sum one too large in the right piece", |ask, a, l| if *a == 0 && ask.row() == 2 { add(l, 1, 1, 1) }),
     ("a degree that is not raised", |ask, a, l| if *a == 0 && ask.row() == 3 { add(l, 0, 0, -1) }),
@@ -57,7 +57,7 @@ const FAULTS: [(&str, Fault); 28] = [
     ("a place off by one", |_, a, _| if number(a) == 3 && *a >> 32 > 0 { *a -= 1 << 32 }),
     ("a 12 with another length", |_, a, _| if number(a) == 12 { *a ^= 1 << 32 }),
     ("a 12 before a 5", |_, a, l| if number(a) == 5 && l.buffers[0].length < 4 { *a = 12 | 4 << 32 }),
-    ("a 17 one step early", |ask, a, _| if let Ask::Elevate { curve } = ask { if *a == 0 && curve.sum == 65_534 { *a = 17 } }),
+    ("a 17 one step early", |ask, a, _| if let Ask::Elevate { curve } = ask { if *a == 0 && curve.0[1] == 65_534 { *a = 17 } }),
     ("a place in the panel's answer", |ask, a, _| if ask.row() == 10 && number(a) == 10 { *a |= 1 << 32 }),
 ];
 

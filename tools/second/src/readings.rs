@@ -95,8 +95,9 @@ fn exact_raised(curve: &Curve, raised: &Curve) -> bool {
 
 /// The summed reading lies in the staged one at j/16, and no side a whole step from the exact one.
 fn check_sum(trial: &mut Trial, curve: Given, j: u32, load: &Rectangle) -> Result<(), String> {
-    let weights = weights(curve.degree as usize, at_sixteenth(j));
-    let near = is_near(&weights, curve.curve().control_points(), load);
+    let read = curve.curve();
+    let weights = weights(read.degree, at_sixteenth(j));
+    let near = is_near(&weights, read.control_points(), load);
     let ask = Ask::Evaluate {
         curve,
         t: at_sixteenth(j),
