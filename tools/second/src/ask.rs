@@ -122,6 +122,23 @@ impl Ask {
         }
     }
 
+    /// Which of its row's wrong forms was lent, if any, and if the call was not refused for something else: by the
+    /// refusal's number, or 0.
+    pub fn form(&self, number: u32) -> Option<usize> {
+        if let (Ask::Enclose { ohms }, 13) = (self, number) {
+            return (ohms.0.len() > 3).then_some(0);
+        }
+        let numbers = &self.curve()?.0[..];
+        match (numbers, number) {
+            ([], 1) => Some(0),
+            ([..=-1, ..], 1) => Some(1),
+            ([_], 2) => Some(2),
+            ([degree, ..], 2) if numbers.len() < curve_length(*degree as usize) => Some(3),
+            ([_, ..=-1 | 65_536.., ..], 0 | 17) => Some(4),
+            _ => None,
+        }
+    }
+
     /// The curve lent, where there is one.
     pub fn curve(&self) -> Option<&Given> {
         match self {

@@ -15,6 +15,8 @@ pub struct Call {
     pub drawn: usize,
     refusals: &'static [u32],
     kinds: &'static [&'static str],
+    /// Wrong forms of the curve or the measurement that is lent.
+    forms: &'static [&'static str],
     /// The least and the highest degree of an accepted call, both 0 where there is no curve.
     degrees: [usize; 2],
 }
@@ -23,29 +25,32 @@ const ALL: [usize; 2] = [1, MAX_DEGREE];
 const FLAG: &[&str] = &["rounded", "exact"];
 
 #[rustfmt::skip]
+const CURVE: &[&str] = &["no degree", "a degree below 0", "no sum", "too few sides", "a sum out of range"];
+
+#[rustfmt::skip]
 pub const CALLS: [Call; 11] = [
     Call { name: "evaluate", draw: draw::evaluate, drawn: 800_000,
-        refusals: &[1, 2, 3, 4, 5, 12], kinds: FLAG, degrees: ALL },
+        refusals: &[1, 2, 3, 4, 5, 12], kinds: FLAG, forms: CURVE, degrees: ALL },
     Call { name: "evaluate_sixteenths", draw: draw::evaluate_sixteenths, drawn: 600_000,
-        refusals: &[1, 2, 3, 15, 12], kinds: FLAG, degrees: ALL },
+        refusals: &[1, 2, 3, 15, 12], kinds: FLAG, forms: CURVE, degrees: ALL },
     Call { name: "subdivide", draw: draw::subdivide, drawn: 600_000,
-        refusals: &[1, 2, 3, 4, 5, 17, 12], kinds: FLAG, degrees: ALL },
+        refusals: &[1, 2, 3, 4, 5, 17, 12], kinds: FLAG, forms: CURVE, degrees: ALL },
     Call { name: "elevate", draw: draw::elevate, drawn: 400_000,
-        refusals: &[1, 2, 3, 6, 17, 12], kinds: FLAG, degrees: [1, MAX_DEGREE - 1] },
+        refusals: &[1, 2, 3, 6, 17, 12], kinds: FLAG, forms: CURVE, degrees: [1, MAX_DEGREE - 1] },
     Call { name: "bounds", draw: draw::bounds, drawn: 300_000,
-        refusals: &[1, 2, 3, 12], kinds: &["bounds"], degrees: ALL },
+        refusals: &[1, 2, 3, 12], kinds: &["bounds"], forms: CURVE, degrees: ALL },
     Call { name: "search", draw: draw::search, drawn: 400_000,
-        refusals: &[1, 2, 3, 7, 8, 9, 17, 12], kinds: &["Inside", "Outside", "Spent", "Undecided"], degrees: ALL },
+        refusals: &[1, 2, 3, 7, 8, 9, 17, 12], kinds: &["Inside", "Outside", "Spent", "Undecided"], forms: CURVE, degrees: ALL },
     Call { name: "choose_setting", draw: draw::choose_setting, drawn: 150_000,
-        refusals: &[16, 1, 2, 3, 7, 8, 9, 17, 12], kinds: &["fits", "none fits"], degrees: ALL },
+        refusals: &[16, 1, 2, 3, 7, 8, 9, 17, 12], kinds: &["fits", "none fits"], forms: CURVE, degrees: ALL },
     Call { name: "enclose", draw: draw::enclose, drawn: 2_000_000,
-        refusals: &[13, 14, 12], kinds: &["no carrier", "a load", "with a spread"], degrees: [0, 0] },
+        refusals: &[13, 14, 12], kinds: &["no carrier", "a load", "with a spread"], forms: &["more than three"], degrees: [0, 0] },
     Call { name: "read_card", draw: draw::read_card, drawn: 600_000,
-        refusals: &[10, 11, 1, 2, 3, 12], kinds: &["read"], degrees: ALL },
+        refusals: &[10, 11, 1, 2, 3, 12], kinds: &["read"], forms: &[], degrees: ALL },
     Call { name: "write_card", draw: draw::write_card, drawn: 300_000,
-        refusals: &[1, 2, 3, 12], kinds: &["written"], degrees: ALL },
+        refusals: &[1, 2, 3, 12], kinds: &["written"], forms: CURVE, degrees: ALL },
     Call { name: "panel", draw: draw::panel, drawn: 1_200_000,
-        refusals: &[10, 11, 1, 2, 3, 4, 5, 12], kinds: &["read"], degrees: ALL },
+        refusals: &[10, 11, 1, 2, 3, 4, 5, 12], kinds: &["read"], forms: &[], degrees: ALL },
 ];
 
 /// What is tried with exact fractions. Each must come up too.
@@ -74,6 +79,7 @@ const KINDS: usize = 4;
 pub struct Coverage {
     refusals: [[u64; REFUSALS]; CALLS.len()],
     kinds: [[[u64; MAX_DEGREE + 1]; KINDS]; CALLS.len()],
+    forms: [[u64; CURVE.len()]; CALLS.len()],
     facts: [u64; FACTS.len()],
 }
 
@@ -84,6 +90,10 @@ impl Coverage {
         match answer {
             Ok(stored) => self.kinds[row][ask.kind(stored)][ask.degree()] += 1,
             Err(refusal) => self.refusals[row][refusal.number as usize] += 1,
+        }
+        let number = answer.as_ref().map_or_else(|refusal| refusal.number, |_| 0);
+        if let Some(form) = ask.form(number) {
+            self.forms[row][form] += 1;
         }
     }
 
@@ -103,7 +113,9 @@ impl Coverage {
     fn numbers(&mut self) -> impl Iterator<Item = &mut u64> {
         let kinds = self.kinds.as_flattened_mut().as_flattened_mut();
         let refusals = self.refusals.as_flattened_mut();
-        refusals.iter_mut().chain(kinds).chain(&mut self.facts)
+        let forms = self.forms.as_flattened_mut();
+        let calls = refusals.iter_mut().chain(kinds).chain(forms);
+        calls.chain(&mut self.facts)
     }
 
     /// How many calls were compared.
@@ -140,6 +152,9 @@ impl Coverage {
             let degrees = (least..=highest).filter(|degree| times[*degree] == 0);
             missing.extend(degrees.map(|degree| format!("{name}, {kind}, degree {degree}")));
         }
+        let forms = call.forms.iter().zip(&self.forms[row]);
+        let forms = forms.filter(|(_, times)| **times == 0);
+        missing.extend(forms.map(|(form, _)| format!("{name}, {form}")));
         missing
     }
 
@@ -154,6 +169,8 @@ impl Coverage {
             let refused =
                 |number: &u32| format!("{number}: {}", self.refusals[row][*number as usize]);
             cells.extend(call.refusals.iter().map(refused));
+            let forms = call.forms.iter().zip(&self.forms[row]);
+            cells.extend(forms.map(|(form, times)| format!("{form} {times}")));
             lines += &format!("{}: {}\n", call.name, cells.join(", "));
         }
         let facts = FACTS.iter().zip(&self.facts);

@@ -30,7 +30,7 @@ fn number(answer: &u64) -> u32 {
 }
 
 #[rustfmt::skip]
-const FAULTS: [(&str, Fault); 28] = [
+const FAULTS: [(&str, Fault); 31] = [
     ("two sides swapped", |_, a, l| if *a == 0 { l.buffers[0].words.swap(1, 2) }),
     ("a low side a step too low", |_, a, l| if *a == 0 { add(l, 0, 0, -1) }),
     ("a high reactance a step too high", |_, a, l| if *a == 0 { add(l, 0, 3, 1) }),
@@ -58,6 +58,9 @@ const FAULTS: [(&str, Fault); 28] = [
     ("a 12 with another length", |_, a, _| if number(a) == 12 { *a ^= 1 << 32 }),
     ("a 12 before a 5", |_, a, l| if number(a) == 5 && l.buffers[0].length < 4 { *a = 12 | 4 << 32 }),
     ("a 17 one step early", |ask, a, _| if let Ask::Elevate { curve } = ask { if *a == 0 && curve.0[1] == 65_534 { *a = 17 } }),
+    ("a sum above its range that is accepted", |ask, a, _| if let Ask::Elevate { curve } = ask { if *a == 17 && curve.0[1] > 65_535 { *a = 0 } }),
+    ("a degree below 0 told as a 2", |ask, a, _| if let Ask::Bounds { curve } = ask { if *a == 1 && curve.0.first() < Some(&0) { *a = 2 } }),
+    ("a fourth measured number that is not read", |ask, a, _| if let Ask::Enclose { ohms } = ask { if ohms.0.len() > 3 && *a == 13 | 2 << 32 { *a = 0 } }),
     ("a place in the panel's answer", |ask, a, _| if ask.row() == 10 && number(a) == 10 { *a |= 1 << 32 }),
 ];
 
@@ -100,6 +103,7 @@ fn finds_what_did_not_come_up() {
     let none = coverage.missing();
     assert!(none.contains(&"evaluate, refusal 1: 0".to_string()));
     assert!(none.contains(&"search, Spent, degree 8".to_string()));
+    assert!(none.contains(&"enclose, more than three".to_string()));
     for (row, call) in CALLS.iter().enumerate() {
         let ask = (call.draw)(&mut Rng::new(1));
         assert_eq!(ask.row(), row, "{}", call.name);
