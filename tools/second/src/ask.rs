@@ -131,10 +131,10 @@ impl Ask {
         let numbers = &self.curve()?.0[..];
         match (numbers, number) {
             ([], 1) => Some(0),
-            ([..=-1, ..], 1) => Some(1),
+            ([degree, ..], 1) if *degree < 0 => Some(1),
             ([_], 2) => Some(2),
             ([degree, ..], 2) if numbers.len() < curve_length(*degree as usize) => Some(3),
-            ([_, ..=-1 | 65_536.., ..], 0 | 17) => Some(4),
+            ([_, sum, ..], 0 | 17) if u16::try_from(*sum).is_err() => Some(4),
             _ => None,
         }
     }

@@ -59,7 +59,7 @@ const FAULTS: [(&str, Fault); 31] = [
     ("a 12 before a 5", |_, a, l| if number(a) == 5 && l.buffers[0].length < 4 { *a = 12 | 4 << 32 }),
     ("a 17 one step early", |ask, a, _| if let Ask::Elevate { curve } = ask { if *a == 0 && curve.0[1] == 65_534 { *a = 17 } }),
     ("a sum above its range that is accepted", |ask, a, _| if let Ask::Elevate { curve } = ask { if *a == 17 && curve.0[1] > 65_535 { *a = 0 } }),
-    ("a degree below 0 told as a 2", |ask, a, _| if let Ask::Bounds { curve } = ask { if *a == 1 && curve.0.first() < Some(&0) { *a = 2 } }),
+    ("a degree below 0 told as a 2", |ask, a, _| if let Ask::Bounds { curve } = ask { if *a == 1 && curve.0.first().is_some_and(|degree| *degree < 0) { *a = 2 } }),
     ("a fourth measured number that is not read", |ask, a, _| if let Ask::Enclose { ohms } = ask { if ohms.0.len() > 3 && *a == 13 | 2 << 32 { *a = 0 } }),
     ("a place in the panel's answer", |ask, a, _| if ask.row() == 10 && number(a) == 10 { *a |= 1 << 32 }),
 ];
