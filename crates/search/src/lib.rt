@@ -16,7 +16,6 @@ use curve::refused_unless;
 use curve::sum_refusal;
 
 mod boxes;
-mod inside;
 mod verdicts;
 mod visit;
 
@@ -30,9 +29,6 @@ use visit::visit_at;
 pub use boxes::apart_from;
 pub use boxes::in_box;
 pub use boxes::is_box;
-
-// Whether a walk ends Inside, without the rest of its verdict.
-pub use inside::ends_inside;
 
 // The largest depth limit.
 pub const MAX_DEPTH: u32 = 12;

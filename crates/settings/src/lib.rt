@@ -6,6 +6,7 @@ use curve::Curve;
 use curve::Rect;
 use curve::Refusal;
 
+mod inside;
 mod records;
 
 use records::begun;

@@ -10,6 +10,7 @@ use crate::Choice;
 use crate::ChoiceAnswer;
 use crate::MAX_SETTINGS;
 use crate::Setting;
+use crate::inside::ends_inside;
 use curve::Curve;
 use curve::Rect;
 use curve::Refusal;
@@ -18,7 +19,6 @@ use curve::refused_unless;
 use curve::zero_rect;
 use search::apart_from;
 use search::effort_refusal;
-use search::ends_inside;
 use search::in_box;
 use search::is_box;
 

@@ -4,10 +4,10 @@ use mathlib.Core.Path.{ap}
 use native.Mathlib.Omega.{arith}
 use borrow.Author.Needs.{needs}
 use Rattle.curve.specs.declared.Refusal.{Refusal}
 use Rattle.search.proofs.Accepted.{Facts, number-facts}
 use Rattle.search.proofs.InsideWalk.{ends-told}
-use Rattle.search.proofs.inside.ends_inside.Statement.{statement}
-use Rattle.search.proofs.inside.ends_inside.Tie as tie
+use Rattle.settings.proofs.inside.ends_inside.Statement.{statement}
+use Rattle.settings.proofs.inside.ends_inside.Tie as tie
 
 accepted : (s : tie.Start) → let a = s .args in Facts (a .c) (a .limits) (a .depth) (a .budget)
 accepted s = let a = s .args in number-facts (a .c) (a .limits) (a .depth) (a .budget) (ap (λ (r : Refusal). r .number) (s .pre))

@@ -8,18 +8,18 @@ use borrow.Fn.Kinds.{In}
 use borrow.Fn.PlainCycle.{Measures, is, falls, and}
 use Rattle.curve.specs.declared.BoundingRect.{BoundingRect}
 use Rattle.curve.specs.Calls.{bounded}
 use Rattle.search.specs.Box.{inBox, apartFrom}
 use Rattle.search.proofs.Visits.{Crossing}
 use Rattle.search.proofs.InsideWalk.{tells-spent, tells-contained, tells-apart, tells-limit, tells-none, tells-both, half-within}
-use Rattle.search.proofs.inside.inside_count.Reads as inside-count
-use Rattle.search.proofs.inside.inside_count.Kinds as inside-count-kinds
-use Rattle.search.proofs.inside.+inside_count.Lts-inside_count as lts
+use Rattle.settings.proofs.inside.inside_count.Reads as inside-count
+use Rattle.settings.proofs.inside.inside_count.Kinds as inside-count-kinds
+use Rattle.settings.proofs.inside.+inside_count.Lts-inside_count as lts
 use Rattle.curve.proofs.bounds.Reads as bounds-reads
 use Rattle.curve.proofs.subdivide.Reads as subdivide-reads
-use Rattle.search.proofs.boxes.apart_from.Reads as apart-from-reads
-use Rattle.search.proofs.boxes.in_box.Reads as in-box-reads
-use Rattle.search.proofs.inside.+inside_count.{statement}
-use Rattle.search.proofs.inside.+inside_count.Tie.{close}
+use Rattle.search.proofs.apart_from.Reads as apart-from-reads
+use Rattle.search.proofs.in_box.Reads as in-box-reads
+use Rattle.settings.proofs.inside.+inside_count.{statement}
+use Rattle.settings.proofs.inside.+inside_count.Tie.{close}
 
 abbrev μ-inside-count : Measures 0 inside-count-kinds.ps ℕ
 μ-inside-count κs a = a .1 .1 .1 .0

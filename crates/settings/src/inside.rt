@@ -2,13 +2,13 @@
 ghost use mathlib.Core.Path.{_≡_};
 ghost use Prim.Native.Nat.{_≤_};
 ghost use Rattle.curve.specs.Refusals.{none};
 ghost use Rattle.search.specs.Limits.{maxBudget};
 ghost use Rattle.search.specs.Search.{searchRefusal, endsInside};
 ghost use Rattle.search.specs.Inner.{TellsInside};
-use crate::boxes::apart_from;
-use crate::boxes::in_box;
 use curve::Curve;
 use curve::Rect;
+use search::apart_from;
+use search::in_box;
 
 // The number of pieces looked at once this one is walked, with `below` depths below it and `before` pieces looked at before it, all in the box; 0 as soon as the walk cannot end Inside.
 fn inside_count(piece: Curve, limits: Rect, budget: u32, below: u32, before: u32) -> u32
