@@ -20,8 +20,7 @@ use read::read_header;
 use read::read_rows;
 use write::write_rows;
 
-// A number as a degree, and a rectangle's numbers as its line shows them.
-pub use read::degree_of;
+// A rectangle's numbers as its line shows them.
 pub use write::sides;
 
 // The answer of read_card.

@@ -74,7 +74,7 @@ fn side_of(value: i64) -> i32
 }
 
 // A number as a degree: one that is none becomes 0.
-pub fn degree_of(value: i64) -> u32
+fn degree_of(value: i64) -> u32
     ensures { λ r. ⌜ r ≡ degreeOf value ⌝ }
 {
     if 0 <= value && value <= MAX_DEGREE as i64 {

@@ -3,17 +3,16 @@ ghost use mathlib.Core.Path.{_≡_};
 ghost use Prim.Native.Nat.{_+_, _*_, _≤_};
 ghost use lib.ListN.{length};
 ghost use Rattle.curve.specs.Limits.{maxDegree};
-ghost use Rattle.curve.specs.Curve.{pointsOf};
 ghost use Rattle.card_text.specs.Reading.{degreeOf};
-ghost use Rattle.interface.specs.Numbers.{givenAt, rectAt, sumFrom, curveFrom, ohmsAt, spreadFrom, measurementFrom};
+ghost use Rattle.interface.specs.Numbers.{givenAt, rectAt, sumFrom, curveFrom, ohmsAt, measurementFrom};
 use crate::results::RECT_LENGTH;
-use crate::results::curve_length;
 use bridge::Measurement;
-use card_text::degree_of;
 use curve::Curve;
 use curve::Interval;
+use curve::MAX_DEGREE;
 use curve::PLACES;
 use curve::Rect;
+use curve::zero_curve;
 use curve::zero_rect;
 
 // What stands for a number that a slice does not have: out of range as a degree, as a sum and as a side.
@@ -36,6 +35,17 @@ fn number_at(numbers: &[i32], k: usize) -> i32
     }
 }
 
+// A rectangle that lacks a side.
+const MISSING_INTERVAL: Interval = Interval {
+    low: MISSING,
+    high: MISSING,
+};
+
+const MISSING_RECT: Rect = Rect {
+    resistance: MISSING_INTERVAL,
+    reactance: MISSING_INTERVAL,
+};
+
 // The rectangle whose sides begin at an index, where the slice has all four.
 fn whole_rect_at(numbers: &[i32], at: usize) -> Rect
     requires { ⌜ at + 4 ≤ length (now numbers) ⌝ }
@@ -53,39 +63,25 @@ fn whole_rect_at(numbers: &[i32], at: usize) -> Rect
     }
 }
 
-// The same where some may be missing.
-fn short_rect_at(numbers: &[i32], at: usize) -> Rect
-    requires { ⌜ at ≤ 2 + 4 * maxDegree ⌝ }
-    ensures { λ r. ⌜ r ≡ rectAt (now (numbers .entry)) at ⌝ }
-{
-    Rect {
-        resistance: Interval {
-            low: number_at(numbers, at),
-            high: number_at(numbers, at + 1),
-        },
-        reactance: Interval {
-            low: number_at(numbers, at + 2),
-            high: number_at(numbers, at + 3),
-        },
-    }
-}
-
 // The same for any slice, at an index that is one of a curve's.
 pub fn rect_at(numbers: &[i32], at: usize) -> Rect
     requires { ⌜ at ≤ 2 + 4 * maxDegree ⌝ }
     ensures { λ r. ⌜ r ≡ rectAt (now (numbers .entry)) at ⌝ }
 {
-    if at + RECT_LENGTH <= numbers.len() {
-        return whole_rect_at(numbers, at);
+    if at + RECT_LENGTH > numbers.len() {
+        return MISSING_RECT;
     }
-    short_rect_at(numbers, at)
+    whole_rect_at(numbers, at)
 }
 
-// A number as a degree.
+// A number as a degree: one that is none becomes 0.
 fn degree_from(number: i32) -> u32
     ensures { λ r. ⌜ r ≡ degreeOf number ⌝ }
 {
-    degree_of(number as i64)
+    if 0 <= number && number <= MAX_DEGREE as i32 {
+        return number as u32;
+    }
+    0
 }
 
 // A number as a sum of steps.
@@ -98,40 +94,44 @@ fn sum_from(number: i32) -> u16
     MAX_SUM
 }
 
-// The rectangles of a curve up to the last one, and zero past it.
-fn points_from(numbers: &[i32], last: usize) -> [Rect; PLACES]
-    requires { ⌜ last ≤ maxDegree ⌝ }
-    ensures { λ r. ⌜ r ≡ pointsOf last (λ k. rectAt (now (numbers .entry)) (2 + 4 * k)) ⌝ }
+// The curve that a slice's numbers give. Rectangle 0 and the sum are read behind the loop: so the compiler knows from the test of the
+// degree, which comes right before it, how often it runs at most, and writes it out.
+pub fn curve_from(numbers: &[i32]) -> Curve
+    ensures { λ r. ⌜ r ≡ curveFrom (now (numbers .entry)) ⌝ }
 {
+    let degree = degree_from(number_at(numbers, 0));
+    if degree == 0 {
+        return zero_curve();
+    }
+    let last = degree as usize;
     let mut points = [zero_rect(); PLACES];
-    points[0] = rect_at(numbers, HEAD);
     let mut k = 0;
     while k < last {
         k += 1;
         points[k] = rect_at(numbers, HEAD + RECT_LENGTH * k);
     }
-    points
-}
-
-// The curve that a slice's numbers give.
-pub fn curve_from(numbers: &[i32]) -> Curve
-    ensures { λ r. ⌜ r ≡ curveFrom (now (numbers .entry)) ⌝ }
-{
-    let degree = degree_from(number_at(numbers, 0));
+    points[0] = rect_at(numbers, HEAD);
     let sum = sum_from(number_at(numbers, 1));
     Curve {
         degree,
         sum,
-        points: points_from(numbers, degree as usize),
+        points,
     }
 }
 
-// The same of a slice that has all their sides.
-fn whole_points(numbers: &[i32], last: usize) -> [Rect; PLACES]
-    requires { ⌜ last ≤ maxDegree ⌝ }
-    requires { ⌜ 2 + 4 * (last + 1) ≤ length (now numbers) ⌝ }
-    ensures { λ r. ⌜ r ≡ pointsOf last (λ k. rectAt (now (numbers .entry)) (2 + 4 * k)) ⌝ }
+// The same curve. The slice's length is tested once, for all sides: faster where they are used one by one.
+pub fn tested_curve_from(numbers: &[i32]) -> Curve
+    ensures { λ r. ⌜ r ≡ curveFrom (now (numbers .entry)) ⌝ }
 {
+    let degree = degree_from(number_at(numbers, 0));
+    if degree == 0 {
+        return zero_curve();
+    }
+    let last = degree as usize;
+    if HEAD + RECT_LENGTH * (last + 1) > numbers.len() {
+        return curve_from(numbers);
+    }
+    let sum = sum_from(number_at(numbers, 1));
     let mut points = [zero_rect(); PLACES];
     points[0] = whole_rect_at(numbers, HEAD);
     let mut k = 0;
@@ -139,23 +139,10 @@ fn whole_points(numbers: &[i32], last: usize) -> [Rect; PLACES]
         k += 1;
         points[k] = whole_rect_at(numbers, HEAD + RECT_LENGTH * k);
     }
-    points
-}
-
-// The curve of `curve_from`. The slice's length is tested once, so that four sides are copied at a time: faster where the
-// curve is stored before it is looked at, and slower where its sides are used at once.
-pub fn stored_curve_from(numbers: &[i32]) -> Curve
-    ensures { λ r. ⌜ r ≡ curveFrom (now (numbers .entry)) ⌝ }
-{
-    let degree = degree_from(number_at(numbers, 0));
-    if curve_length(degree) > numbers.len() {
-        return curve_from(numbers);
-    }
-    let sum = sum_from(number_at(numbers, 1));
     Curve {
         degree,
         sum,
-        points: whole_points(numbers, degree as usize),
+        points,
     }
 }
 
@@ -166,17 +153,17 @@ fn ohms_at(ohms: &[f32], k: usize) -> f32
     if k < ohms.len() { ohms[k] } else { 0.0 / 0.0 }
 }
 
-// The spread, the last of three numbers. A longer slice is no measurement, and its spread not a number.
-fn spread_from(ohms: &[f32]) -> f32
-    ensures { λ r. ⌜ r ≡ spreadFrom (now (ohms .entry)) ⌝ }
-{
-    if ohms.len() == 3 { ohms[2] } else { 0.0 / 0.0 }
-}
-
-// The measurement with these numbers: no carrier, a load, or a load with a spread.
+// The measurement with these numbers: no carrier, a load, or a load with a spread, which more than three numbers lack.
 pub fn measurement_from(ohms: &[f32]) -> Measurement
     ensures { λ r. ⌜ r ≡ measurementFrom (now (ohms .entry)) ⌝ }
 {
+    if ohms.len() == 3 {
+        return Measurement::LoadWithSpread {
+            resistance: ohms[0],
+            reactance: ohms[1],
+            spread: ohms[2],
+        };
+    }
     if ohms.len() == 0 {
         return Measurement::NoCarrier;
     }
@@ -191,6 +178,6 @@ pub fn measurement_from(ohms: &[f32]) -> Measurement
     Measurement::LoadWithSpread {
         resistance,
         reactance,
-        spread: spread_from(ohms),
+        spread: 0.0 / 0.0,
     }
 }

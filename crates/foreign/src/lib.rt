@@ -32,7 +32,7 @@ use curve::Evaluation;
 use given::curve_from;
 use given::measurement_from;
 use given::rect_at;
-use given::stored_curve_from;
+use given::tested_curve_from;
 use results::CHOICE_LENGTH;
 use results::RECT_LENGTH;
 use results::VERDICT_LENGTH;
@@ -95,7 +95,7 @@ pub extern "C" fn jusqani_evaluate_sixteenths_v2(
 ) -> u64
     ensures { λ r. ⌜ GivesEvaluation (evaluatedSixteenths (curveFrom (now (curve .entry))) j) (now (load .entry)) (now (ohms .entry)) (now (exact .entry)) r (now (load .exit)) (now (ohms .exit)) (now (exact .exit)) ⌝ }
 {
-    let answer = sixteenths::evaluate_sixteenths(curve_from(curve), j);
+    let answer = sixteenths::evaluate_sixteenths(tested_curve_from(curve), j);
     give_evaluation(answer, load, ohms, exact)
 }
 
@@ -111,7 +111,7 @@ pub extern "C" fn jusqani_subdivide_v2(
 ) -> u64
     ensures { λ r. ⌜ GivesSubdivision (subdivided (curveFrom (now (curve .entry))) num den) (now (left .entry)) (now (right .entry)) (now (exact .entry)) r (now (left .exit)) (now (right .exit)) (now (exact .exit)) ⌝ }
 {
-    let answer = curve::subdivide(stored_curve_from(curve), num, den);
+    let answer = curve::subdivide(curve_from(curve), num, den);
     let start = answer.left;
     let rest = answer.right;
     let first = with_room(answer.refusal, curve_length(start.degree), left.len());

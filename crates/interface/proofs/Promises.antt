@@ -9,6 +9,7 @@ use native.Mathlib.Nat.{eq-or-lt-of-le}
 use native.Mathlib.Omega.{arith}
 use lib.IntN.{ℤ, pos}
 use lib.Ieee.{Float, nan}
+use lib.Dec.{eqb}
 use lib.Signed.{leZ}
 use lib.ListN.{length, take, drop, List·getD-eq-default}
 use lib.Seq.{take-at, drop-at}
@@ -19,20 +20,20 @@ use Rattle.curve.specs.declared.Curve.{Curve}
 use Rattle.curve.specs.declared.Refusal.{Refusal}
 use Rattle.curve.specs.Limits.{maxDegree, maxSum}
 use Rattle.curve.specs.Rect.{inRange, sidesInRange, endsInRange}
-use Rattle.curve.specs.Curve.{point, curveOf, SameCurve}
+use Rattle.curve.specs.Curve.{point, curveOf, zeroCurve, SameCurve}
 use Rattle.curve.specs.Refusals.{refusal, none, _orElse_, unlessAt, firstFailing, degreeRefusal, rangeRefusal, orderRefusal, curveRefusal, Accepted}
 use Rattle.curve.specs.Ohms.{ohmsOf}
 use Rattle.curve.proofs.Accepted.{accepted-facts}
 use Rattle.curve.proofs.Places.{points-at}
 use Rattle.curve.proofs.Refused.{or-first}
 use Rattle.curve.proofs.Tests.{or-none, between-holds}
-use Rattle.card_text.specs.Reading.{upTo}
-use Rattle.card_text.proofs.UpTo.{number-above, number-below, number-back, degree-of-pos}
+use Rattle.card_text.specs.Reading.{upTo, degreeOf}
+use Rattle.card_text.proofs.UpTo.{number-above, number-below, number-back, degree-of-pos, degree-at-most}
 use Rattle.search.specs.Box.{areLimits, isBox}
 use Rattle.bridge.specs.Value.{finite, isFrom, isLoad}
 use Rattle.bridge.specs.Bridge.{spreadRect, loadRefusal, numberRefusal, sideRefusal, spreadRefusal, answered, enclosed}
 use Rattle.interface.specs.Answer.{word, maxPlace, placeOf, answerOf, after}
-use Rattle.interface.specs.Numbers.{missing, givenAt, rectAt, curveFrom, ohmsAt, spreadFrom, measurementFrom, sidesTo, curveNumbers}
+use Rattle.interface.specs.Numbers.{missing, givenAt, rectAt, sumFrom, curveFrom, ohmsAt, spreadFrom, measurementFrom, sidesTo, curveNumbers}
 use Rattle.interface.specs.Promises.{Unpacked, ZeroAnswer, CurveLength, HandedOn, LargestSum, WrongLength, ResultNumbers, Kept}
 use Rattle.interface.proofs.Lent.{all-kept, value-stored}
 use Rattle.interface.proofs.Numbers as Numbers
@@ -64,30 +65,48 @@ curve-length = Numbers.curve-length
 
 -- ---- a curve handed on
 
+-- a curve with a degree is read by its parts
+read-whole : (zs : List ℤ) → 1 ≤ degreeOf (givenAt zs 0) → curveFrom zs ≡ curveOf (degreeOf (givenAt zs 0)) (sumFrom (givenAt zs 1)) (λ k. rectAt zs (2 + 4 * k))
+unfolding curveFrom
+read-whole zs some = rw (ne-eqb (degreeOf (givenAt zs 0)) 0 (λ e. absurd (omega arith)))
+
 pub handed-on : HandedOn
-unfolding curveNumbers curveFrom
+unfolding curveNumbers
 handed-on c more ok fits =
-    let zs = sidesTo (c .degree + 1) (point c) ++ more in
-    let few = accepted-facts c ok .few in
-    let f : ℕ → Rect = λ k. rectAt (curveNumbers c ++ more) (2 + 4 * k) in
-    let same : SameCurve c (curveOf (c .degree) (c .sum) f) =
+    let facts = accepted-facts c ok in
+    let numbers = curveNumbers c ++ more in
+    let f : ℕ → Rect = λ k. rectAt numbers (2 + 4 * k) in
+    let degree : degreeOf (pos (c .degree)) ≡ c .degree = degree-of-pos (c .degree) (facts .few) in
+    let read : curveFrom numbers ≡ curveOf (c .degree) (c .sum) f =
+    read-whole numbers (rw degree (facts .some)) ∙ ap₂ (λ (n s : ℕ). curveOf n s f) degree (number-back maxSum _ (c .sum) fits) in
+    subst (SameCurve c) (sym read) (
     record {
       sums = refl;
       rest = record {
         degrees = refl;
         controls = λ k h.
-            sym (Numbers.rect-back (point c) (c .degree + 1) more k (omega arith))
-            ∙ sym (Numbers.rect-behind (pos (c .degree) ∷ pos (c .sum) ∷ []) zs (4 * k) (2 + 4 * k) refl)
-            ∙ sym (points-at (c .degree) f k (omega arith) h);
+            sym (Numbers.rect-back (pos (c .degree) ∷ pos (c .sum) ∷ []) (point c) (c .degree + 1) more k (omega arith))
+            ∙ sym (points-at (c .degree) f k (omega (arith, facts .few)) h);
       };
-    } in
-    subst (SameCurve c) (ap₂ (λ (n s : ℕ). curveOf n s f) (sym (degree-of-pos (c .degree) few)) (sym (number-back maxSum maxSum (c .sum) fits))) same
+    }
+    )
+
+-- where there is a degree
+with-degree : (zs : List ℤ) → degreeRefusal (curveFrom zs .degree) ≡ none → curveFrom zs ≡ curveOf (degreeOf (givenAt zs 0)) (sumFrom (givenAt zs 1)) (λ k. rectAt zs (2 + 4 * k))
+unfolding curveFrom
+with-degree zs good = go (eqb (degreeOf (givenAt zs 0)) 0) good
+  where
+    read : Curve
+    read = curveOf (degreeOf (givenAt zs 0)) (sumFrom (givenAt zs 1)) (λ k. rectAt zs (2 + 4 * k))
+
+    go : (b : Bool) → degreeRefusal (cond b zeroCurve read .degree) ≡ none → cond b zeroCurve read ≡ read
+    go true bad = let one = ap (λ (r : Refusal). r .number) bad in absurd (omega arith)
+    go false _ = refl
 
 pub largest-sum : LargestSum
-unfolding curveFrom
-largest-sum zs outside = go (leZ (pos 0) (givenAt zs 1)) refl
+largest-sum zs good outside = ap (λ (c : Curve). c .sum) (with-degree zs good) ∙ go (leZ (pos 0) (givenAt zs 1)) refl
   where
-    go : (b : Bool) → leZ (pos 0) (givenAt zs 1) ≡ b → curveFrom zs .sum ≡ maxSum
+    go : (b : Bool) → leZ (pos 0) (givenAt zs 1) ≡ b → sumFrom (givenAt zs 1) ≡ maxSum
     go true low = sym (number-above maxSum maxSum (givenAt zs 1) low (and-yes low ∙ outside))
     go false low = sym (number-below maxSum maxSum (givenAt zs 1) low)
 
@@ -104,10 +123,10 @@ and-false false e = refl
 false-and : {a : Bool} (b : Bool) → a ≡ false → (a && b) ≡ false
 false-and b e = ap (λ (a : Bool). a && b) e
 
--- the last of four sides is missing wherever one is
+-- all four sides are missing wherever one is
 last-out : (zs : List ℤ) (at : ℕ) → length zs < at + 4 → endsInRange (rectAt zs at .reactance) ≡ false
-unfolding endsInRange rectAt
-last-out zs at short = and-false (inRange (givenAt zs (at + 2))) (ap inRange (List·getD-eq-default zs missing {n = at + 3} (omega arith)) ∙ missing-out)
+unfolding endsInRange
+last-out zs at short = ap (λ (p : Rect). endsInRange (p .reactance)) (Numbers.rect-lacking zs at short) ∙ and-false (inRange missing) missing-out
 
 -- a refusal with this number, at this place or before it
 abbrev Before : ℕ → ℕ → Refusal → Type 0
@@ -146,14 +165,17 @@ module _ (zs : List ℤ) where
     lacking = (length zs - 2) / 4
 
     out-of-range : sidesInRange (point c lacking) ≡ false
-    unfolding sidesInRange curveFrom
+    unfolding sidesInRange
     out-of-range =
-        let few = between-holds (c .degree) maxDegree 0 (ap (λ (r : Refusal). r .number) good) .1 in
-        ap sidesInRange (points-at (c .degree) (λ k. rectAt zs (2 + 4 * k)) lacking (omega arith) (omega arith))
+        let n = degreeOf (givenAt zs 0) in
+        let few = degree-at-most (givenAt zs 0) in
+        let same : c .degree ≡ n = ap (λ (x : Curve). x .degree) (with-degree zs good) in
+        ap (λ (x : Curve). sidesInRange (point x lacking)) (with-degree zs good)
+        ∙ ap sidesInRange (points-at n (λ k. rectAt zs (2 + 4 * k)) lacking (omega arith) (omega arith))
         ∙ and-false (endsInRange (rectAt zs (2 + 4 * lacking) .resistance)) (last-out zs (2 + 4 * lacking) (omega arith))
 
     refused : Before 2 lacking (rangeRefusal c)
-    unfolding rangeRefusal curveFrom
+    unfolding rangeRefusal
     refused = first-failing (λ k. sidesInRange (point c k)) 2 (c .degree + 1) 0 lacking (omega arith) (omega arith) out-of-range
 
     whole : curveRefusal c ≡ rangeRefusal c

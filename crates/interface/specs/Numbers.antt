@@ -11,7 +11,7 @@ use Rattle.curve.specs.declared.Rect.{Rect}
 use Rattle.curve.specs.declared.Curve.{Curve}
 use Rattle.curve.specs.declared.Ohms.{Ohms}
 use Rattle.curve.specs.Limits.{maxSide, maxSum}
-use Rattle.curve.specs.Curve.{curveOf, point}
+use Rattle.curve.specs.Curve.{curveOf, zeroCurve, point}
 use Rattle.curve.specs.Rect.{sides}
 use Rattle.card_text.specs.Reading.{upTo, degreeOf}
 use Rattle.search.specs.declared.Verdict.{Verdict}
@@ -33,21 +33,29 @@ missing = pos (maxSide + 1)
 abbrev pub givenAt : List ℤ → ℕ → ℤ
 givenAt zs k = getD zs k missing
 
--- the rectangle whose four sides begin at an index
+-- a rectangle that lacks a side
+abbrev pub missingRect : Rect
+missingRect = record { resistance = record { low = missing; high = missing }; reactance = record { low = missing; high = missing } }
+
+-- the rectangle whose four sides begin at an index, all of them or none
 unfoldable pub rectAt : List ℤ → ℕ → Rect
 rectAt zs at =
-    record {
+    cond (leb (at + 4) (length zs))
+    (record {
       resistance = record { low = givenAt zs at; high = givenAt zs (at + 1) };
       reactance = record { low = givenAt zs (at + 2); high = givenAt zs (at + 3) };
-    }
+    })
+    missingRect
 
 -- a number as a sum of steps: one outside 0 to 65,535 counts as the largest
 abbrev pub sumFrom : ℤ → ℕ
 sumFrom = upTo maxSum maxSum
 
--- a curve: its degree, its sum of steps, then its sides, four a rectangle
+-- a curve: its degree, its sum of steps, then its sides, four a rectangle; without a degree it is the zero curve, which every call refuses with 1
 unfoldable pub curveFrom : List ℤ → Curve
-curveFrom zs = curveOf (degreeOf (givenAt zs 0)) (sumFrom (givenAt zs 1)) (λ k. rectAt zs (2 + 4 * k))
+curveFrom zs =
+    cond (eqb (degreeOf (givenAt zs 0)) 0) zeroCurve
+    (curveOf (degreeOf (givenAt zs 0)) (sumFrom (givenAt zs 1)) (λ k. rectAt zs (2 + 4 * k)))
 
 -- the bridge's number at an index; one that the list does not have is not a number, which is refused
 abbrev pub ohmsAt : List Float → ℕ → Float

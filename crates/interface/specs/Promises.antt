@@ -45,9 +45,11 @@ CurveLength = (c : Curve) → length (curveNumbers c) ≡ 2 + 4 * (c .degree + 1
 abbrev pub HandedOn : Type 0
 HandedOn = (c : Curve) (more : List ℤ) → Accepted c → c .sum ≤ maxSum → SameCurve c (curveFrom (curveNumbers c ++ more))
 
--- a sum of steps outside 0 to 65,535 counts as the largest
+-- a sum of steps outside 0 to 65,535 counts as the largest, wherever there is a degree
 abbrev pub LargestSum : Type 0
-LargestSum = (zs : List ℤ) → (leZ (pos 0) (givenAt zs 1) && leZ (givenAt zs 1) (pos maxSum)) ≡ false → curveFrom zs .sum ≡ maxSum
+LargestSum =
+    (zs : List ℤ) → degreeRefusal (curveFrom zs .degree) ≡ none → (leZ (pos 0) (givenAt zs 1) && leZ (givenAt zs 1) (pos maxSum)) ≡ false →
+    curveFrom zs .sum ≡ maxSum
 
 -- a wrong length is refused: a curve without a degree with 1; one that lacks a side with 2, at the first rectangle that lacks one or before it; a box that lacks one, which is then none, with 7; and a measurement of one number or of more than three with 13
 pub record WrongLength : Type 0 where

@@ -16,7 +16,7 @@ returns c =
     let a = v .before .before .before .args in
     let ended = g .give-evaluation .last .1 in
     subst (λ (x : Evaluation). GivesEvaluation x (a .load .now) (a .ohms .now) (a .exact .now) (g .give-evaluation .result) (ended .0) (ended .1 .0) (ended .1 .1 .0))
-    (v .evaluate-sixteenths .ensures ∙ ap (λ (x : Curve). evaluatedSixteenths x (a .j)) (v .before .curve-from .ensures))
+    (v .evaluate-sixteenths .ensures ∙ ap (λ (x : Curve). evaluatedSixteenths x (a .j)) (v .before .tested-curve-from .ensures))
     (g .give-evaluation .ensures)
 
 pub jusqani-evaluate-sixteenths-v2-spec : {M : Type 1} → statement M

@@ -24,7 +24,7 @@ within f = f .before .before .before .before .before .before
 few : (v : tie.After-subdivide) → (v .subdivide .result .left .degree ≤ maxDegree) × (v .subdivide .result .right .degree ≤ maxDegree)
 few v =
     let a = v .before .before .args in
-    let (left, right) = pieces-ranged (v .before .stored-curve-from .result) (a .num) (a .den) in
+    let (left, right) = pieces-ranged (v .before .curve-from .result) (a .num) (a .den) in
     rw (v .subdivide .ensures) (left .few, right .few)
 
 -- the lengths that are tested are those of the pieces
@@ -53,7 +53,7 @@ returns c =
     let x = v .subdivide .result in
     let a = v .before .before .args in
     subst (λ (s : Subdivision). GivesSubdivision s (a .left .now) (a .right .now) (a .exact .now) (c .answer-of .result) (p .put-curve .last .0) (q .put-curve2 .last .0) (e .put-exact .last .0))
-    (v .subdivide .ensures ∙ ap (λ (z : Curve). subdivided z (a .num) (a .den)) (v .before .stored-curve-from .ensures))
+    (v .subdivide .ensures ∙ ap (λ (z : Curve). subdivided z (a .num) (a .den)) (v .before .curve-from .ensures))
     (gives-both-number (x .refusal) (curveNumbers (x .left)) (a .left .now) (curveNumbers (x .right)) (a .right .now) (left-long f) (right-long f) (f .before .before .with-room .ensures) (f .with-room2 .ensures)
     (c .answer-of .ensures) (p .put-curve .ensures) (q .put-curve2 .ensures) (e .put-exact .ensures))
 
