@@ -68,7 +68,7 @@ typedef uint64_t jusqani_length;
 
 /* A refusal's number and its place, off an answer. */
 #define JUSQANI_NUMBER(answer) ((uint32_t)((answer) & 0xffffffffu))
-#define JUSQANI_PLACE(answer) ((uint32_t)((answer) >> 32))
+#define JUSQANI_PLACE(answer) ((uint32_t)((uint64_t)(answer) >> 32))
 
 /*
  * All refusals, X(number, name, words) for each. A place is 0 unless a comment says what it tells. The words are for
@@ -106,16 +106,16 @@ enum jusqani_refusal { JUSQANI_REFUSALS(JUSQANI_REFUSED) };
  */
 #define JUSQANI_STACK(X) \
     X(panel, 784) \
-    X(evaluate, 556) \
-    X(evaluate_sixteenths, 480) \
-    X(subdivide, 1352) \
-    X(elevate, 584) \
-    X(bounds, 600) \
-    X(search, 11672) \
-    X(choose_setting, 8200) \
+    X(evaluate, 425) \
+    X(evaluate_sixteenths, 488) \
+    X(subdivide, 1320) \
+    X(elevate, 456) \
+    X(bounds, 424) \
+    X(search, 11688) \
+    X(choose_setting, 8168) \
     X(enclose, 40) \
     X(read_card, 800) \
-    X(write_card, 384)
+    X(write_card, 248)
 
 /* The highest degree of a curve, the steps in an ohm, and the most records of a list of settings. */
 #define JUSQANI_MAX_DEGREE 8
