@@ -76,7 +76,8 @@ pub fn enclose(ohms: &[f32], rect: &mut [i32], found: &mut u32) -> u64 {
         }
         [resistance] => plain_load(resistance, f32::NAN),
         [resistance, reactance] => plain_load(resistance, reactance),
-        [resistance, reactance, spread, ..] => with_spread(resistance, reactance, spread),
+        [resistance, reactance, spread] => with_spread(resistance, reactance, spread),
+        [resistance, reactance, ..] => with_spread(resistance, reactance, f32::NAN),
     };
     match enclosed {
         Err(answer) => answer,
@@ -105,8 +106,8 @@ mod tests {
         let numbers = [edges, edges.map(|ohms| -ohms)].concat();
         let numbers = [&numbers[..], &beyond].concat();
         for (r, x, spread) in triples(&numbers) {
-            for (length, room) in (0..=3).flat_map(|length| [(length, 3), (length, 5)]) {
-                let ohms = &[r, x, spread][..length];
+            for (length, room) in (0..=4).flat_map(|length| [(length, 3), (length, 5)]) {
+                let ohms = &[r, x, spread, spread][..length];
                 let [ours, plain] = [raw::enclose as Enclose, enclose].map(|call| {
                     let (mut rect, mut found) = ([7; 5], 7);
                     let answer = call(ohms, &mut rect[..room], &mut found);
