@@ -11,29 +11,29 @@ use lib.IntN.{ℤ, pos}
 use lib.Ieee.{Float, nan}
 use lib.Dec.{eqb}
 use lib.Signed.{leZ}
-use lib.ListN.{length, take, drop, List·getD-eq-default}
+use lib.ListN.{length, take, drop}
 use lib.Seq.{take-at, drop-at}
 use borrow.Author.Tests.{ne-eqb, le-leb, lt-leb}
 use Rattle.rational.proofs.Machine.{and-yes}
 use Rattle.curve.specs.declared.Rect.{Rect}
 use Rattle.curve.specs.declared.Curve.{Curve}
 use Rattle.curve.specs.declared.Refusal.{Refusal}
-use Rattle.curve.specs.Limits.{maxDegree, maxSum}
+use Rattle.curve.specs.Limits.{maxSum}
 use Rattle.curve.specs.Rect.{inRange, sidesInRange, endsInRange}
 use Rattle.curve.specs.Curve.{point, curveOf, zeroCurve, SameCurve}
-use Rattle.curve.specs.Refusals.{refusal, none, _orElse_, unlessAt, firstFailing, degreeRefusal, rangeRefusal, orderRefusal, curveRefusal, Accepted}
+use Rattle.curve.specs.Refusals.{refusal, none, _orElse_, unlessAt, firstFailing, degreeRefusal, rangeRefusal, orderRefusal, curveRefusal}
 use Rattle.curve.specs.Ohms.{ohmsOf}
 use Rattle.curve.proofs.Accepted.{accepted-facts}
 use Rattle.curve.proofs.Places.{points-at}
 use Rattle.curve.proofs.Refused.{or-first}
-use Rattle.curve.proofs.Tests.{or-none, between-holds}
+use Rattle.curve.proofs.Tests.{or-none}
 use Rattle.card_text.specs.Reading.{upTo, degreeOf}
 use Rattle.card_text.proofs.UpTo.{number-above, number-below, number-back, degree-of-pos, degree-at-most}
 use Rattle.search.specs.Box.{areLimits, isBox}
 use Rattle.bridge.specs.Value.{finite, isFrom, isLoad}
 use Rattle.bridge.specs.Bridge.{spreadRect, loadRefusal, numberRefusal, sideRefusal, spreadRefusal, answered, enclosed}
 use Rattle.interface.specs.Answer.{word, maxPlace, placeOf, answerOf, after}
-use Rattle.interface.specs.Numbers.{missing, givenAt, rectAt, sumFrom, curveFrom, ohmsAt, spreadFrom, measurementFrom, sidesTo, curveNumbers}
+use Rattle.interface.specs.Numbers.{missing, givenAt, rectAt, sumFrom, curveFrom, ohmsAt, spreadFrom, measurementFrom, curveNumbers}
 use Rattle.interface.specs.Promises.{Unpacked, ZeroAnswer, CurveLength, HandedOn, LargestSum, WrongLength, ResultNumbers, Kept}
 use Rattle.interface.proofs.Lent.{all-kept, value-stored}
 use Rattle.interface.proofs.Numbers as Numbers

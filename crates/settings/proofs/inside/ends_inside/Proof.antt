@@ -2,7 +2,6 @@
 -- Assumes nothing.
 use mathlib.Core.Path.{ap}
 use native.Mathlib.Omega.{arith}
-use borrow.Author.Needs.{needs}
 use Rattle.curve.specs.declared.Refusal.{Refusal}
 use Rattle.search.proofs.Accepted.{Facts, number-facts}
 use Rattle.search.proofs.InsideWalk.{ends-told}
