@@ -7,7 +7,7 @@ use mathlib.Core.Logic.{inl, inr}
 use Prim.Native.Nat.{ℕ, zero, suc, _+_, _*_, _/_, _%_, _-_, _<_, _≤_}
 use native.Mathlib.Nat.{eq-or-lt-of-le}
 use native.Mathlib.Omega.{arith}
-use lib.IntN.{ℤ, pos}
+use lib.IntN.{ℤ, pos, negsuc}
 use lib.Ieee.{Float, nan}
 use lib.Dec.{eqb}
 use lib.Signed.{leZ}
@@ -18,7 +18,7 @@ use Rattle.rational.proofs.Machine.{and-yes}
 use Rattle.curve.specs.declared.Rect.{Rect}
 use Rattle.curve.specs.declared.Curve.{Curve}
 use Rattle.curve.specs.declared.Refusal.{Refusal}
-use Rattle.curve.specs.Limits.{maxSum}
+use Rattle.curve.specs.Limits.{maxDegree, maxSum}
 use Rattle.curve.specs.Rect.{inRange, sidesInRange, endsInRange}
 use Rattle.curve.specs.Curve.{point, curveOf, zeroCurve, SameCurve}
 use Rattle.curve.specs.Refusals.{refusal, none, _orElse_, unlessAt, firstFailing, degreeRefusal, rangeRefusal, orderRefusal, curveRefusal}
@@ -34,7 +34,7 @@ use Rattle.bridge.specs.Value.{finite, isFrom, isLoad}
 use Rattle.bridge.specs.Bridge.{spreadRect, loadRefusal, numberRefusal, sideRefusal, spreadRefusal, answered, enclosed}
 use Rattle.interface.specs.Answer.{word, maxPlace, placeOf, answerOf, after}
 use Rattle.interface.specs.Numbers.{missing, givenAt, rectAt, sumFrom, curveFrom, ohmsAt, spreadFrom, measurementFrom, curveNumbers}
-use Rattle.interface.specs.Promises.{Unpacked, ZeroAnswer, CurveLength, HandedOn, LargestSum, WrongLength, ResultNumbers, Kept}
+use Rattle.interface.specs.Promises.{Unpacked, ZeroAnswer, CurveLength, HandedOn, LargestSum, NoDegree, WrongLength, ResultNumbers, Kept}
 use Rattle.interface.proofs.Lent.{all-kept, value-stored}
 use Rattle.interface.proofs.Numbers as Numbers
 
@@ -150,10 +150,20 @@ no-box : (zs : List ℤ) → length zs < 4 → isBox (rectAt zs 0) ≡ false
 unfolding isBox areLimits
 no-box zs short = and-false (areLimits (rectAt zs 0 .resistance)) (false-and _ (last-out zs 0 (omega arith)))
 
-no-degree : (zs : List ℤ) → length zs ≡ 0 → curveRefusal (curveFrom zs) ≡ refusal 1 0
-unfolding curveRefusal curveFrom upTo
-no-degree [] e = refl
-no-degree (z ∷ zs) e = absurd (omega arith)
+-- no degree counts as 0
+degree-zero : (z : ℤ) → (leZ (pos 1) z && leZ z (pos maxDegree)) ≡ false → degreeOf z ≡ 0
+unfolding upTo
+degree-zero (negsuc n) outside = refl
+degree-zero (pos zero) outside = refl
+degree-zero (pos (suc n)) outside = rw (and-yes (le-leb 1 (suc n) (omega arith)) ∙ outside)
+
+pub no-degree : NoDegree
+unfolding curveRefusal curveFrom
+no-degree zs outside = rw (degree-zero (givenAt zs 0) outside)
+
+no-number : (zs : List ℤ) → length zs ≡ 0 → curveRefusal (curveFrom zs) ≡ refusal 1 0
+no-number [] e = no-degree [] refl
+no-number (z ∷ zs) e = absurd (omega arith)
 
 module _ (zs : List ℤ) where
   abbrev c : Curve
@@ -209,7 +219,7 @@ many-numbers xs many =
     (no-spread (isLoad (ohmsAt xs 0)) (isLoad (ohmsAt xs 1)) (sideRefusal (spreadRect (ohmsAt xs 0) (ohmsAt xs 1) nan)) _)
 
 pub wrong-length : WrongLength
-wrong-length = record { degree = no-degree; side = no-side; box = no-box; lone = lone-number; many = many-numbers }
+wrong-length = record { degree = no-number; side = no-side; box = no-box; lone = lone-number; many = many-numbers }
 
 -- ---- results
 

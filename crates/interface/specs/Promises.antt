@@ -11,7 +11,7 @@ use lib.ListN.{length, take, drop}
 use Rattle.curve.specs.declared.Rect.{Rect}
 use Rattle.curve.specs.declared.Curve.{Curve}
 use Rattle.curve.specs.declared.Refusal.{Refusal}
-use Rattle.curve.specs.Limits.{maxSum}
+use Rattle.curve.specs.Limits.{maxDegree, maxSum}
 use Rattle.curve.specs.Rect.{sides}
 use Rattle.curve.specs.Curve.{SameCurve}
 use Rattle.curve.specs.Ohms.{ohm, ohmsOf}
@@ -51,7 +51,11 @@ LargestSum =
     (zs : List ℤ) → degreeRefusal (curveFrom zs .degree) ≡ none → (leZ (pos 0) (givenAt zs 1) && leZ (givenAt zs 1) (pos maxSum)) ≡ false →
     curveFrom zs .sum ≡ maxSum
 
--- a wrong length is refused: a curve without a degree with 1; one that lacks a side with 2, at the first rectangle that lacks one or before it; a box that lacks one, which is then none, with 7; and a measurement of one number or of more than three with 13
+-- a number that is no degree, below 1 or above the highest, is refused with 1
+abbrev pub NoDegree : Type 0
+NoDegree = (zs : List ℤ) → (leZ (pos 1) (givenAt zs 0) && leZ (givenAt zs 0) (pos maxDegree)) ≡ false → curveRefusal (curveFrom zs) ≡ refusal 1 0
+
+-- a wrong length is refused: a curve without a number with 1; one that lacks a side with 2, at the first rectangle that lacks one or before it; a box that lacks one, which is then none, with 7; and a measurement of one number or of more than three with 13
 pub record WrongLength : Type 0 where
   pub degree : (zs : List ℤ) → length zs ≡ 0 → curveRefusal (curveFrom zs) ≡ refusal 1 0
   pub side : (zs : List ℤ) → let n = curveFrom zs .degree in degreeRefusal n ≡ none → length zs < 2 + 4 * (n + 1) →
