@@ -4,7 +4,7 @@ use mathlib.Core.Path.{◌≡◌, refl, sym, ap, subst}
 use mathlib.Core.Bool.{Bool, true, false, cond}
 use mathlib.Core.Logic.{inl, inr}
 use Prim.Native.Nat.{ℕ, zero, suc, ◌+◌, ◌*◌, ◌/◌, ◌%◌, ◌^◌, ◌≤◌, ◌<◌}
-use native.Mathlib.Nat.{mul_one, mul-pos, lt_irrefl, mod-lt, div-lt_iff_lt-mul, le-div_iff_mul-le, mul-le-mul_right, mul-lt-mul_of_pos_right, le_trans, lt_of_lt_of_le, lt_of_le_of_lt, le_of_lt, le_of_eq, eq-or-lt_of_le}
+use native.Mathlib.Nat.{mul-one, mul-pos, lt_irrefl, mod-lt, div-lt_iff_lt-mul, le-div_iff_mul-le, mul-le-mul_right, mul-lt-mul_of_pos_right, le_trans, lt_of_lt_of_le, lt_of_le_of_lt, le_of_lt, le_of_eq, eq-or-lt_of_le}
 use native.Mathlib.Omega.{arith}
 use borrow.Author.Tests.{eqb-true, leb-true, leb-false, le-leb, lt-leb}
 use lib.Dec.{leb, eqb, lit<}
@@ -22,7 +22,7 @@ sign = 0x80000000
 -- of its fields, unless they are those of an infinity or of not a number
 fields_value : (s : Bool) (e t : ℕ) → e < ones binary32 → HasValue (of_fields binary32 s e t) s (units_by e t) (2 ^ low binary32)
 unfolding of_fields units_by
-fields_value s zero t h = subst (λ (n : ℕ). HasValue (odd (prec binary32) s t 0 (low binary32)) s n (2 ^ low binary32)) (mul_one t) (odd_sign (prec binary32) s t 0 (low binary32))
+fields_value s zero t h = subst (λ (n : ℕ). HasValue (odd (prec binary32) s t 0 (low binary32)) s n (2 ^ low binary32)) (mul-one t) (odd_sign (prec binary32) s t 0 (low binary32))
 fields_value s (suc x) t h = go (eqb (suc x) (ones binary32)) refl
   where
     go : (b : Bool) → eqb (suc x) (ones binary32) ≡ b → HasValue (cond b (cond (eqb t 0) (inf s) nan) (odd (prec binary32) s (hid binary32 + t) x (low binary32))) s ((field + t) * 2 ^ x) (2 ^ low binary32)

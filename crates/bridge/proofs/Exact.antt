@@ -3,7 +3,7 @@
 use mathlib.Core.Path.{◌≡◌, refl, sym, ap, ap₂, ◌∙◌}
 use mathlib.Core.Bool.{Bool, true, false, ◌&&◌}
 use Prim.Native.Nat.{ℕ, ◌*◌, ◌<◌}
-use native.Mathlib.Nat.{mul_one as nat-mul-one}
+use native.Mathlib.Nat.{mul-one as nat-mul-one}
 use lib.IntN.{ℤ, pos, ◌*ℤ◌}
 use lib.Signed.{le_z}
 use lib.Ieee as Ieee
@@ -12,7 +12,7 @@ use lib.Ieee.Exact.{HasValue}
 use Rattle.rational.specs.Rounding.{Rounding, quotient}
 use Rattle.rational.specs.Fraction.{Frac, Equal, whole, ◌*ᶠ◌}
 use Rattle.rational.specs.Promises.{over}
-use Rattle.rational.proofs.Whole.{neg_mul, mul_one}
+use Rattle.rational.proofs.Whole.{neg_mul, mul-one}
 use Rattle.rational.proofs.RationalOrder.{at-most_equal}
 use Rattle.rational.proofs.Rational.{mul_equal}
 use Rattle.rational.proofs.Quotient.{quotient_equal}
@@ -51,15 +51,15 @@ module _ (x : Float) (s : Bool) (a d : ℕ) (positive : 0 < d) (v : HasValue x s
     where
       from : le_z (least *ℤ pos (ohms x).lower) (ohms x).upper ≡ le_z (least *ℤ pos d) (signed s a)
       from =
-          ap (λ (z : ℤ). le_z (least *ℤ pos (ohms x).lower) z) (sym (mul_one (ohms x).upper))
+          ap (λ (z : ℤ). le_z (least *ℤ pos (ohms x).lower) z) (sym (mul-one (ohms x).upper))
           ∙ at-most_equal (whole least) (ohms x) (whole least) value (same (whole least)) equal_value
-          ∙ ap (λ (z : ℤ). le_z (least *ℤ pos d) z) (mul_one (signed s a))
+          ∙ ap (λ (z : ℤ). le_z (least *ℤ pos d) z) (mul-one (signed s a))
 
       to : le_z (ohms x).upper (most *ℤ pos (ohms x).lower) ≡ le_z (signed s a) (most *ℤ pos d)
       to =
-          ap (λ (z : ℤ). le_z z (most *ℤ pos (ohms x).lower)) (sym (mul_one (ohms x).upper))
+          ap (λ (z : ℤ). le_z z (most *ℤ pos (ohms x).lower)) (sym (mul-one (ohms x).upper))
           ∙ at-most_equal (ohms x) (whole most) value (whole most) equal_value (same (whole most))
-          ∙ ap (λ (z : ℤ). le_z z (most *ℤ pos d)) (mul_one (signed s a))
+          ∙ ap (λ (z : ℤ). le_z z (most *ℤ pos d)) (mul-one (signed s a))
 
   -- its steps are the value's, times the steps in an ohm
   pub step_value : (r : Rounding) → step_at r x ≡ quotient r (signed s (a * steps_per_ohm)) d

@@ -1,5 +1,7 @@
 // What the bridge module measures, as rectangles of whole steps: single-precision ohms, with or without a spread.
 // The call takes any measurement, answers a refusal for bad numbers, and equals its definition in specs/Bridge.antt.
+#![tactic(auto)]
+
 ghost use Rattle.std.specs.Prelude.{◌≡◌};
 ghost use Rattle.bridge.specs.declared.Measurement.TheVariants.{LoadWithSpread};
 ghost use Rattle.bridge.specs.Bridge.{enclosed};
@@ -14,7 +16,7 @@ use checks::{number_refusal, side_refusal};
 use ohms::{steps_about, widened};
 
 // What the bridge delivers, in ohms: no carrier, a plain load, or a load with a spread.
-#[derive(Drop)]
+#[derive(Clone, Copy)]
 pub enum Measurement {
     NoCarrier,
     Load {
@@ -29,7 +31,7 @@ pub enum Measurement {
 }
 
 // What a measurement encloses: a rectangle, or none where there is no carrier. A refused one has nothing to tell.
-#[derive(Drop)]
+#[derive(Clone, Copy)]
 pub enum Found {
     Refused,
     NoCarrier,
@@ -37,7 +39,7 @@ pub enum Found {
 }
 
 // The answer of enclose.
-#[derive(Drop)]
+#[derive(Clone, Copy)]
 pub struct BridgeAnswer {
     pub refusal: Refusal,
     pub found: Found,

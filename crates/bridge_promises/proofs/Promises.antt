@@ -12,7 +12,7 @@ use lib.Ieee as Ieee
 use lib.Ieee.{Float, fin}
 use Rattle.rational.specs.Rounding.{Rounding, down, up}
 use Rattle.rational.specs.Fraction.{Frac, whole}
-use Rattle.rational.proofs.Whole.{mul_one}
+use Rattle.rational.proofs.Whole.{mul-one}
 use Rattle.rational.proofs.Truth.{both_and}
 use Rattle.rational.proofs.Order.{≤ℤ-trans, ≤ℤ-reflexive, ≤ℤ-certificate}
 use Rattle.rational.proofs.Quotient.{rounds_down, rounds_up, down-up}
@@ -84,13 +84,13 @@ reports = record { refusing = refusing; silent = (refl, refl); enclosing = enclo
 -- a side bounds a value as its multiple bounds the upper number
 bounded_is : (o : Rounding) (v : Frac) (z : ℤ) → Outward o v.upper (z *ℤ pos v.lower) → Bounded o v z
 unfolding whole
-bounded_is down v z h = record { crosswise = ≤ℤ-trans h (≤ℤ-reflexive (sym (mul_one v.upper))) }
-bounded_is up v z h = record { crosswise = ≤ℤ-trans (≤ℤ-reflexive (mul_one v.upper)) h }
+bounded_is down v z h = record { crosswise = ≤ℤ-trans h (≤ℤ-reflexive (sym (mul-one v.upper))) }
+bounded_is up v z h = record { crosswise = ≤ℤ-trans (≤ℤ-reflexive (mul-one v.upper)) h }
 
 bounds_upper : (o : Rounding) (v : Frac) (z : ℤ) → Bounded o v z → Outward o v.upper (z *ℤ pos v.lower)
 unfolding whole
-bounds_upper down v z h = ≤ℤ-trans h.crosswise (≤ℤ-reflexive (mul_one v.upper))
-bounds_upper up v z h = ≤ℤ-trans (≤ℤ-reflexive (sym (mul_one v.upper))) h.crosswise
+bounds_upper down v z h = ≤ℤ-trans h.crosswise (≤ℤ-reflexive (mul-one v.upper))
+bounds_upper up v z h = ≤ℤ-trans (≤ℤ-reflexive (sym (mul-one v.upper))) h.crosswise
 
 -- the step below or above holds the value, and is the nearest that does
 step_holds : (o : Rounding) (x : Float) → Bounded o (steps x) (step_at o x)

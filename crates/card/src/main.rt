@@ -1,5 +1,7 @@
 // Reads one card from standard input and prints the bounds of its curve and the load at 1/2, or its refusal.
 // What is printed is computed by card_report::report; the program itself only reads and writes.
+#![tactic(auto)]
+
 use card_report::{MOST_SHOWN, report};
 use libc::{STDIN_FILENO, STDOUT_FILENO};
 

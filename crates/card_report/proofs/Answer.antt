@@ -6,7 +6,7 @@ use mathlib.Core.List.{List, [], ◌∷◌}
 use Prim.Native.Nat.{ℕ, ◌≤◌}
 use native.Mathlib.Omega.{arith}
 use lib.IntN.{pos}
-use lib.ListN.{length, take, length_append, length-take}
+use lib.ListN.{length, take, length-append, length-take}
 use borrow.Author.Tests.{eq-eqb, ne_eqb}
 use Rattle.columns.specs.Line.{placed, all_fit, after_line}
 use Rattle.columns.proofs.Lines.{number_fits, fit_none, fit_more, line_long}
@@ -29,7 +29,7 @@ use Rattle.card_report.specs.Report.{most_bytes, curve_lines, refusal_line, show
 pub lines_long : (c : Curve) → length (curve_lines c) ≡ most_shown
 unfolding curve_lines
 lines_long c =
-    length_append (row (bounded c).rect) (row (evaluated c 1 2).load) ∙ rw (row_long (bounds_held c), row_long (load-held c 1 2))
+    length-append (row (bounded c).rect) (row (evaluated c 1 2).load) ∙ rw (row_long (bounds_held c), row_long (load-held c 1 2))
 
 -- a refusal's two numbers fit their columns
 module _ (r : Refusal) (small : (r.number ≤ most_bytes) × (r.place ≤ most_bytes)) where

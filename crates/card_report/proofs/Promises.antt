@@ -6,7 +6,7 @@ use mathlib.Core.List.{List}
 use Prim.Native.Nat.{ℕ, ◌+◌, ◌-◌, ◌≤◌}
 use native.Mathlib.Omega.{arith}
 use lib.Dec.{eqb}
-use lib.ListN.{length, take, drop, length_append, length-drop}
+use lib.ListN.{length, take, drop, length-append, length-drop}
 use lib.Seq.{take-append_seam, get_or-append-add, get_or-drop}
 use borrow.Author.Tests.{eqb-true, eqb-false}
 use Rattle.card_text.specs.Reading.{read_card}
@@ -43,6 +43,6 @@ report_keeps input out whole =
     let short = shown-short input in
     record {
       fits = omega arith;
-      size = length_append (shown input) (drop n out) ∙ rw length-drop (omega arith);
+      size = length-append (shown input) (drop n out) ∙ rw length-drop (omega arith);
       later = λ k behind. let e : n + (k - n) ≡ k = omega arith in rw (← e, get_or-append-add, get_or-drop);
     }

@@ -1,4 +1,6 @@
 // What the program `card` prints: the bounds and the load at 1/2 of a card's curve, or a card's refusal.
+#![tactic(auto)]
+
 ghost use Rattle.std.specs.Prelude.{◌≡◌, length, take};
 ghost use Rattle.card_report.specs.Report.{most_bytes, shown, reported};
 

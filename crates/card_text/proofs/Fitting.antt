@@ -7,7 +7,7 @@ use Prim.Native.Nat.{ℕ, zero, suc, ◌+◌, ◌*◌, ◌≤◌, ◌<◌}
 use native.Mathlib.Omega.{arith}
 use lib.Dec.{leb→le}
 use lib.IntN.{ℤ, pos, negsuc}
-use lib.ListN.{length, length_append}
+use lib.ListN.{length, length-append}
 use borrow.Author.Tests.{le-leb}
 use Rattle.rational.proofs.Order.{pos_reflects}
 use Rattle.rational.specs.Rounding.{down, up}
@@ -66,11 +66,11 @@ pub rows_long : (m : ℕ) (P : ℕ → Rect) → ((k : ℕ) → k < m → length
 unfolding rows
 rows_long zero P h = refl
 rows_long (suc m) P h =
-    length_append (rows m P) (row (P m)) ∙ rw (rows_long m P (λ k l. h k (omega arith)), h m (omega arith)) (omega arith)
+    length-append (rows m P) (row (P m)) ∙ rw (rows_long m P (λ k l. h k (omega arith)), h m (omega arith)) (omega arith)
 
 pub card_long : (c : Curve) → Accepted c → length (card_of c) ≡ card_length c.degree
 unfolding card_of
 card_long c ok =
     let ready = accepted-ready c ok in
-    length_append (header c.degree) (rows (c.degree + 1) (point c))
+    length-append (header c.degree) (rows (c.degree + 1) (point c))
     ∙ rw (header_long c.degree ready.few, rows_long (c.degree + 1) (point c) (λ k h. row_long (ready.held k (omega arith))))

@@ -6,8 +6,8 @@ use Prim.Native.Nat.{ℕ, ◌+◌, ◌≤◌, ◌<◌}
 use native.Mathlib.Decide.{ℕ_discrete}
 use native.Mathlib.Numerals.{add-one}
 use native.Mathlib.Omega.{arith}
-use lib.ListN.{length, get_or, set, replicate, length_set, get_or-replicate}
-use lib.Seq.{get_or_set_same, get_or_set_other}
+use lib.ListN.{length, get_or, set, replicate, length-set, get_or-replicate}
+use lib.Seq.{get_or-set_same, get_or-set_other}
 use Rattle.curve.specs.declared.Rect.{Rect}
 use Rattle.curve.specs.declared.Refusal.{Refusal}
 use Rattle.curve.specs.Limits.{places}
@@ -46,16 +46,16 @@ module _ (bytes : List ℕ) (k : ℕ) (refusal : Refusal) (points : List Rect) (
   rows_next h =
       record {
         refused = rw add-one (ap (λ (x : Refusal). x or_else row_refusal bytes (row_at k)) r.refused);
-        size = length_set points k (held_at bytes k) ∙ r.size;
+        size = length-set points k (held_at bytes k) ∙ r.size;
         done = λ i low. at i low (ℕ_discrete i k);
-        rest = λ i low high. get_or_set_other points k i (held_at bytes k) zero_rect (λ e. omega arith) ∙ r.rest i (omega arith) high;
+        rest = λ i low high. get_or-set_other points k i (held_at bytes k) zero_rect (λ e. omega arith) ∙ r.rest i (omega arith) high;
       }
     where
       at : (i : ℕ) → i < k + 1 → Dec (i ≡ k) → get_or (set points k (held_at bytes k)) i zero_rect ≡ held_at bytes i
       at i low (yes e) =
           subst (λ (j : ℕ). get_or (set points k (held_at bytes k)) j zero_rect ≡ held_at bytes j) (sym e)
-          (get_or_set_same points k (held_at bytes k) zero_rect (let size = r.size in omega arith))
-      at i low (no ne) = get_or_set_other points k i (held_at bytes k) zero_rect ne ∙ r.done i (omega arith)
+          (get_or-set_same points k (held_at bytes k) zero_rect (let size = r.size in omega arith))
+      at i low (no ne) = get_or-set_other points k i (held_at bytes k) zero_rect ne ∙ r.done i (omega arith)
 
   pub rows_points : (n : ℕ) → k ≡ n + 1 → points ≡ points_of n (held_at bytes)
   rows_points n e = is_points n (held_at bytes) points r.size (λ i h low. r.done i (omega arith)) (λ i h past. r.rest i (omega arith) h)

@@ -4,7 +4,7 @@ use mathlib.Core.Path.{◌≡◌, refl, sym, ap, ◌∙◌, subst}
 use mathlib.Core.List.{List, [], ◌∷◌, ◌++◌, append_assoc, append-nil}
 use Prim.Native.Nat.{ℕ, ◌+◌}
 use native.Mathlib.Omega.{arith}
-use lib.ListN.{length, drop, length_append}
+use lib.ListN.{length, drop, length-append}
 use lib.Seq.{drop-drop, drop_at}
 
 -- the text of this size begins at the offset
@@ -25,7 +25,7 @@ stands_both {bytes} {at} {m} {n} {a} {b} s t =
     record {
       rest = t.rest;
       here = s.here ∙ ap (λ (l : List ℕ). a ++ l) (sym (behind bytes at m a s.rest s.long s.here) ∙ t.here) ∙ sym (append_assoc a b t.rest);
-      long = length_append a b ∙ rw (s.long, t.long);
+      long = length-append a b ∙ rw (s.long, t.long);
     }
 
 module _ (a b : List ℕ) {bytes : List ℕ} {at k m : ℕ} (s : Stands bytes at k (a ++ b)) (w : length a ≡ m) where
@@ -54,7 +54,7 @@ stands_whole bytes = record { rest = []; here = sym (append-nil bytes); long = r
 
 pub stands_is : {bytes text : List ℕ} → Stands bytes 0 (length bytes) text → text ≡ bytes
 stands_is {bytes} {text} s =
-    let count : length text + length s.rest ≡ length bytes = sym (length_append text s.rest) ∙ sym (ap length s.here) in
+    let count : length text + length s.rest ≡ length bytes = sym (length-append text s.rest) ∙ sym (ap length s.here) in
     let nothing = none s.rest (let w = s.long in omega arith) in
     sym (s.here ∙ ap (λ (l : List ℕ). text ++ l) nothing ∙ append-nil text)
   where

@@ -1,5 +1,7 @@
 // The curve card: a curve as text in columns ten bytes wide, read from lent bytes and written into a lent buffer.
 // Both calls take anything, answer a refusal for bad input, and equal their definitions in specs/Reading.antt and specs/Writing.antt.
+#![tactic(auto)]
+
 ghost use Rattle.std.specs.Prelude.{◌≡◌};
 ghost use Rattle.card_text.specs.Reading.{read_card};
 ghost use Rattle.card_text.specs.Writing.{write_card, bytes_after};
@@ -18,14 +20,14 @@ use write::write_rows;
 pub use write::sides;
 
 // The answer of read_card.
-#[derive(Drop)]
+#[derive(Clone, Copy)]
 pub struct CardRead {
     pub refusal: Refusal,
     pub curve: Curve,
 }
 
 // The answer of write_card.
-#[derive(Drop)]
+#[derive(Clone, Copy)]
 pub struct CardWritten {
     pub refusal: Refusal,
     pub length: usize,

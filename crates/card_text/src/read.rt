@@ -21,35 +21,35 @@ use columns::{Column, read_column};
 use curve::{Interval, MAX_DEGREE, MAX_SIDE, MIN_SIDE, PLACES, Rect, Refusal, first_of, zero_rect};
 
 // The number in a column, 0 if it is malformed.
-#[derive(Drop)]
+#[derive(Clone, Copy)]
 struct Entry {
     refusal: Refusal,
     value: i64,
 }
 
 // The first line.
-#[derive(Drop)]
+#[derive(Clone, Copy)]
 pub struct Header {
     pub refusal: Refusal,
     pub degree: u32,
 }
 
 // The two columns of an interval.
-#[derive(Drop)]
+#[derive(Clone, Copy)]
 struct Ends {
     refusal: Refusal,
     interval: Interval,
 }
 
 // A rectangle's line.
-#[derive(Drop)]
+#[derive(Clone, Copy)]
 struct Row {
     refusal: Refusal,
     rect: Rect,
 }
 
 // The rectangles' lines.
-#[derive(Drop)]
+#[derive(Clone, Copy)]
 pub struct Rows {
     pub refusal: Refusal,
     pub points: [Rect; PLACES],

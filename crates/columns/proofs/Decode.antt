@@ -8,7 +8,7 @@ use mathlib.Core.Bool.{Bool, true, false, cond, ◌&&◌, ◌||◌, false≢true
 use mathlib.Core.List.{List, [], ◌∷◌, ◌++◌}
 use mathlib.Core.Path.{◌≡◌, refl, sym, ap, ◌∙◌}
 use lib.IntN.{ℤ, pos, negsuc}
-use lib.ListN.{length, get_or, drop, replicate, length_append, length-replicate}
+use lib.ListN.{length, get_or, drop, replicate, length-append, length-replicate}
 use lib.Seq.{drop-cons}
 use lib.Dec.{eqb}
 use borrow.Author.Tests.{le-leb, eqb-true, eq-eqb, ne_eqb}
@@ -102,18 +102,18 @@ same_eq (x ∷ a) (y ∷ b) e =
 -- a column is never shorter than ten bytes, and exactly ten if its number fits
 pub column_long : (z : ℤ) → 10 ≤ length (column z)
 unfolding column
-column_long z = simp (length_append, length-replicate) (omega arith)
+column_long z = simp (length-append, length-replicate) (omega arith)
 
 pub column_ten : (z : ℤ) → fits_column z ≡ true → length (column z) ≡ 10
 unfolding column
 column_ten z h =
     let w = text-short z h in
-    simp (length_append, length-replicate) (omega arith)
+    simp (length-append, length-replicate) (omega arith)
 
 pub fits_of_ten : (z : ℤ) → length (column z) ≤ 10 → fits_column z ≡ true
 unfolding column
 fits_of_ten z h =
-    let w : 10 - length (text z) + length (text z) ≤ 10 = simp (length_append, length-replicate) at h in
+    let w : 10 - length (text z) + length (text z) ≤ 10 = simp (length-append, length-replicate) at h in
     fits_width z ∙ le-leb (length (text z)) 10 (omega arith)
 
 pub read-column_bytes : (z : ℤ) → read_bytes (column z) ≡ Number z

@@ -7,7 +7,7 @@ use Prim.Native.Nat.{ℕ, zero, suc, ◌+◌, ◌*◌, ◌≤◌, ◌<◌}
 use native.Mathlib.Numerals.{add-one}
 use native.Mathlib.Omega.{arith}
 use lib.IntN.{ℤ, pos}
-use lib.ListN.{length, get_or, take, drop, length_append, length-take}
+use lib.ListN.{length, get_or, take, drop, length-append, length-take}
 use lib.Seq.{take-suc, take_at, drop_at, drop-drop, drop-cons}
 use borrow.Author.Tests.{le-leb}
 use Rattle.columns.specs.Column.{column, fits_column}
@@ -64,7 +64,7 @@ unfolding columns
 columns_long [] f = refl
 columns_long (z ∷ zs) f =
     let (h, t) = fit_split z zs f in
-    length_append (column z) (columns zs) ∙ rw (column_ten z h, columns_long zs t) (omega arith)
+    length-append (column z) (columns zs) ∙ rw (column_ten z h, columns_long zs t) (omega arith)
 
 -- those of the first k numbers, and of one number more
 pub columns-to : (zs : List ℤ) (k : ℕ) → all_fit zs ≡ true → k ≤ length zs → length (columns (take k zs)) ≡ 10 * k
@@ -92,7 +92,7 @@ columns-at (z ∷ zs) more (suc k) f h =
 
 pub line_long : (zs : List ℤ) → all_fit zs ≡ true → length (line zs) ≡ line_length (length zs)
 unfolding line
-line_long zs f = length_append (columns zs) (newline ∷ []) ∙ rw (columns_long zs f)
+line_long zs f = length-append (columns zs) (newline ∷ []) ∙ rw (columns_long zs f)
 
 -- ---- in a buffer
 

@@ -6,7 +6,7 @@ use Prim.Native.Nat.{ℕ, ◌+◌, ◌-◌, ◌≤◌, ◌<◌}
 use native.Mathlib.Nat.{add-zero, zero-add, le_of_eq}
 use native.Mathlib.Numerals.{add-one}
 use native.Mathlib.Omega.{arith}
-use lib.ListN.{length, get_or, take, drop, set, length_append, length-drop, take-append-drop, drop_of_length-le, get_or_append}
+use lib.ListN.{length, get_or, take, drop, set, length-append, length-drop, take-append-drop, drop_of_length-le, get_or-append}
 use lib.Seq.{length-take-le, take_all, take-length, take_at, drop_at, drop-drop, get_or-take, get_or-drop, get_or-append-add, set_split, append_snoc}
 use Rattle.columns.specs.Line.{placed}
 
@@ -42,19 +42,19 @@ placed_byte bytes at b h = set_split bytes at b h ∙ sym (append_snoc (take at 
 
 module _ (bytes : List ℕ) (at : ℕ) (text : List ℕ) (room : at + length text ≤ length bytes) where
   head : length (take at bytes ++ text) ≡ at + length text
-  head = length_append (take at bytes) text ∙ ap (λ (n : ℕ). n + length text) (length-take-le at bytes (omega arith))
+  head = length-append (take at bytes) text ∙ ap (λ (n : ℕ). n + length text) (length-take-le at bytes (omega arith))
 
   pub placed-length : length (placed bytes at text) ≡ length bytes
   unfolding placed
   placed-length =
-      length_append (take at bytes ++ text) (drop (at + length text) bytes) ∙ rw (head, length-drop) (omega arith)
+      length-append (take at bytes ++ text) (drop (at + length text) bytes) ∙ rw (head, length-drop) (omega arith)
 
   -- the bytes before and behind the text
   pub placed-before : (k : ℕ) → k < at → get_or (placed bytes at text) k 0 ≡ get_or bytes k 0
   unfolding placed
   placed-before k h =
-      get_or_append (take at bytes ++ text) (drop (at + length text) bytes) 0 k (omega (arith, head))
-      ∙ get_or_append (take at bytes) text 0 k (omega (arith, length-take-le at bytes (omega arith)))
+      get_or-append (take at bytes ++ text) (drop (at + length text) bytes) 0 k (omega (arith, head))
+      ∙ get_or-append (take at bytes) text 0 k (omega (arith, length-take-le at bytes (omega arith)))
       ∙ get_or-take at bytes k 0 h
 
   pub placed-behind : (k : ℕ) → at + length text ≤ k → get_or (placed bytes at text) k 0 ≡ get_or bytes k 0
@@ -69,7 +69,7 @@ module _ (bytes : List ℕ) (at : ℕ) (text : List ℕ) (room : at + length tex
   unfolding placed
   placed-next next =
       let rest = drop (at + length text) bytes in
-      let sum : at + length text + length next ≡ at + length (text ++ next) = rw (length_append text next) (omega arith) in
+      let sum : at + length text + length next ≡ at + length (text ++ next) = rw (length-append text next) (omega arith) in
       let behind : drop (at + length text + length next) (take at bytes ++ text ++ rest) ≡ drop (at + length (text ++ next)) bytes =
       sym (drop-drop (length next) (at + length text) (take at bytes ++ text ++ rest))
       ∙ ap (λ (l : List ℕ). drop (length next) l) (drop_at (take at bytes ++ text) rest (at + length text) head)

@@ -1,7 +1,7 @@
 -- What an attempt to put a line of numbers at an offset answers and leaves.
 -- Assumes nothing.
 use mathlib.Core.Path.{◌≡◌, refl, ap, ◌∙◌}
-use mathlib.Core.Bool.{true, false, and_false}
+use mathlib.Core.Bool.{true, false, and-false}
 use mathlib.Core.List.{List, [], ◌∷◌}
 use Prim.Native.Nat.{ℕ, ◌+◌, ◌*◌, ◌≤◌}
 use native.Mathlib.Omega.{arith}
@@ -21,7 +21,7 @@ module _ (bytes : List ℕ) (at : ℕ) (zs : List ℤ) where
 
   pub no_fit : all_fit zs ≡ false → (false ≡ can_put_line bytes at zs) × (bytes ≡ after_line bytes at zs)
   unfolding can_put_line after_line
-  no_fit e = rw (e, and_false) (refl, refl)
+  no_fit e = rw (e, and-false) (refl, refl)
 
   -- and otherwise all of it is
   pub line_put : all_fit zs ≡ true → at + line_length (length zs) ≤ length bytes → (can_put_line bytes at zs ≡ true) × (after_line bytes at zs ≡ placed bytes at (line zs))

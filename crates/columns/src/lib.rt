@@ -1,12 +1,14 @@
 // Text columns ten bytes wide, each a decimal number set to the right: read from lent bytes, and written into a lent buffer in lines.
 // Every call takes anything and equals its definition in specs/.
 
+#![tactic(auto)]
+
 mod read;
 mod text;
 mod write;
 
 // What stands in a column.
-#[derive(Drop)]
+#[derive(Clone, Copy)]
 pub enum Column {
     Number(i64),
     Malformed,

@@ -11,8 +11,8 @@ use native.Mathlib.Omega.{arith}
 use borrow.Author.Tests.{eq-eqb, ne_eqb}
 use lib.Dec.{eqb}
 use lib.IntN.{ℤ, pos}
-use lib.ListN.{length, get_or, set, replicate, length_set, length-replicate}
-use lib.Seq.{get_or_set_same, get_or_set_other}
+use lib.ListN.{length, get_or, set, replicate, length-set, length-replicate}
+use lib.Seq.{get_or-set_same, get_or-set_other}
 use Rattle.rational.specs.Rounding.{down, up, rounding_of}
 use Rattle.bernstein.specs.Affine.{affine, affine_exact}
 use Rattle.bernstein.specs.DeCasteljau.{all_below}
@@ -45,10 +45,10 @@ four l m a b c d = set (set (set (set l m a) (m + 1) b) (m + 2) c) (m + 3) d
 module _ (l : List ℤ) (m : ℕ) (a b c d : ℤ) where
   four_length : length (four l m a b c d) ≡ length l
   four_length =
-      length_set (set (set (set l m a) (m + 1) b) (m + 2) c) (m + 3) d
-      ∙ length_set (set (set l m a) (m + 1) b) (m + 2) c
-      ∙ length_set (set l m a) (m + 1) b
-      ∙ length_set l m a
+      length-set (set (set (set l m a) (m + 1) b) (m + 2) c) (m + 3) d
+      ∙ length-set (set (set l m a) (m + 1) b) (m + 2) c
+      ∙ length-set (set l m a) (m + 1) b
+      ∙ length-set l m a
 
   -- what lies outside the four is none of them
   outside : (i j : ℕ) → (i < m) ⊎ (m + 4 ≤ i) → m ≤ j → j < m + 4 → i ≡ j → ⊥
@@ -57,34 +57,34 @@ module _ (l : List ℤ) (m : ℕ) (a b c d : ℤ) where
 
   four_kept : (i : ℕ) → (i < m) ⊎ (m + 4 ≤ i) → get_or (four l m a b c d) i (pos 0) ≡ get_or l i (pos 0)
   four_kept i h =
-      get_or_set_other (set (set (set l m a) (m + 1) b) (m + 2) c) (m + 3) i d (pos 0) (outside i (m + 3) h (omega arith) (omega arith))
-      ∙ get_or_set_other (set (set l m a) (m + 1) b) (m + 2) i c (pos 0) (outside i (m + 2) h (omega arith) (omega arith))
-      ∙ get_or_set_other (set l m a) (m + 1) i b (pos 0) (outside i (m + 1) h (omega arith) (omega arith))
-      ∙ get_or_set_other l m i a (pos 0) (outside i m h (omega arith) (omega arith))
+      get_or-set_other (set (set (set l m a) (m + 1) b) (m + 2) c) (m + 3) i d (pos 0) (outside i (m + 3) h (omega arith) (omega arith))
+      ∙ get_or-set_other (set (set l m a) (m + 1) b) (m + 2) i c (pos 0) (outside i (m + 2) h (omega arith) (omega arith))
+      ∙ get_or-set_other (set l m a) (m + 1) i b (pos 0) (outside i (m + 1) h (omega arith) (omega arith))
+      ∙ get_or-set_other l m i a (pos 0) (outside i m h (omega arith) (omega arith))
 
   module _ (room : m + 4 ≤ length l) where
     four_first : get_or (four l m a b c d) m (pos 0) ≡ a
     four_first =
-        get_or_set_other (set (set (set l m a) (m + 1) b) (m + 2) c) (m + 3) m d (pos 0) (λ e. omega arith)
-        ∙ get_or_set_other (set (set l m a) (m + 1) b) (m + 2) m c (pos 0) (λ e. omega arith)
-        ∙ get_or_set_other (set l m a) (m + 1) m b (pos 0) (λ e. omega arith)
-        ∙ get_or_set_same l m a (pos 0) (omega arith)
+        get_or-set_other (set (set (set l m a) (m + 1) b) (m + 2) c) (m + 3) m d (pos 0) (λ e. omega arith)
+        ∙ get_or-set_other (set (set l m a) (m + 1) b) (m + 2) m c (pos 0) (λ e. omega arith)
+        ∙ get_or-set_other (set l m a) (m + 1) m b (pos 0) (λ e. omega arith)
+        ∙ get_or-set_same l m a (pos 0) (omega arith)
 
     four_second : get_or (four l m a b c d) (m + 1) (pos 0) ≡ b
     four_second =
-        get_or_set_other (set (set (set l m a) (m + 1) b) (m + 2) c) (m + 3) (m + 1) d (pos 0) (λ e. omega arith)
-        ∙ get_or_set_other (set (set l m a) (m + 1) b) (m + 2) (m + 1) c (pos 0) (λ e. omega arith)
-        ∙ get_or_set_same (set l m a) (m + 1) b (pos 0) (rw (length_set l m a) (omega arith))
+        get_or-set_other (set (set (set l m a) (m + 1) b) (m + 2) c) (m + 3) (m + 1) d (pos 0) (λ e. omega arith)
+        ∙ get_or-set_other (set (set l m a) (m + 1) b) (m + 2) (m + 1) c (pos 0) (λ e. omega arith)
+        ∙ get_or-set_same (set l m a) (m + 1) b (pos 0) (rw (length-set l m a) (omega arith))
 
     four_third : get_or (four l m a b c d) (m + 2) (pos 0) ≡ c
     four_third =
-        get_or_set_other (set (set (set l m a) (m + 1) b) (m + 2) c) (m + 3) (m + 2) d (pos 0) (λ e. omega arith)
-        ∙ get_or_set_same (set (set l m a) (m + 1) b) (m + 2) c (pos 0) (rw (length_set (set l m a) (m + 1) b, length_set l m a) (omega arith))
+        get_or-set_other (set (set (set l m a) (m + 1) b) (m + 2) c) (m + 3) (m + 2) d (pos 0) (λ e. omega arith)
+        ∙ get_or-set_same (set (set l m a) (m + 1) b) (m + 2) c (pos 0) (rw (length-set (set l m a) (m + 1) b, length-set l m a) (omega arith))
 
     four_last : get_or (four l m a b c d) (m + 3) (pos 0) ≡ d
     four_last =
-        get_or_set_same (set (set (set l m a) (m + 1) b) (m + 2) c) (m + 3) d (pos 0)
-        (rw (length_set (set (set l m a) (m + 1) b) (m + 2) c, length_set (set l m a) (m + 1) b, length_set l m a) (omega arith))
+        get_or-set_same (set (set (set l m a) (m + 1) b) (m + 2) c) (m + 3) d (pos 0)
+        (rw (length-set (set (set l m a) (m + 1) b) (m + 2) c, length-set (set l m a) (m + 1) b, length-set l m a) (omega arith))
 
 -- a place that is another lies before or behind
 apart : (i k : ℕ) → (i ≡ k → ⊥) → (i < k) ⊎ (k < i)
@@ -154,7 +154,7 @@ module _ (s t d : ℕ) (before : List ℤ) where
   passed_next i now b e v x y p room first second is tells =
       record {
         new = λ x h. at x h (dec_lt x i);
-        old = λ x h. get_or_set_other now i x v (pos 0) (λ q. omega arith) ∙ p.old x (omega arith);
+        old = λ x h. get_or-set_other now i x v (pos 0) (λ q. omega arith) ∙ p.old x (omega arith);
         flag = ap₂ ◌&&◌ p.flag (tells ∙ ap₂ (affine_exact s t d) here there) ∙ sym (all_next i _);
       }
     where
@@ -165,11 +165,11 @@ module _ (s t d : ℕ) (before : List ℤ) where
       there = second ∙ p.old (i + 4) (omega arith)
 
       at : (x : ℕ) → x < i + 1 → Dec (x < i) → get_or (set now i v) x (pos 0) ≡ affine (rounding_of (way x)) s t d (get_or before x (pos 0)) (get_or before (x + 4) (pos 0))
-      at x h (yes less) = get_or_set_other now i x v (pos 0) (λ q. omega arith) ∙ p.new x less
+      at x h (yes less) = get_or-set_other now i x v (pos 0) (λ q. omega arith) ∙ p.new x less
       at x h (no more) =
           let same : i ≡ x = omega arith in
           subst (λ (y : ℕ). get_or (set now i v) y (pos 0) ≡ affine (rounding_of (way y)) s t d (get_or before y (pos 0)) (get_or before (y + 4) (pos 0))) same
-          (get_or_set_same now i v (pos 0) room ∙ is ∙ ap₂ (affine (rounding_of (way i)) s t d) here there)
+          (get_or-set_same now i v (pos 0) room ∙ is ∙ ap₂ (affine (rounding_of (way i)) s t d) here there)
 
 -- ---- from sides to places
 

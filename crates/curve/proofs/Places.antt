@@ -9,8 +9,8 @@ use native.Mathlib.Decide.{ℕ_discrete, dec_le, dec_lt}
 use native.Mathlib.Omega.{arith}
 use borrow.Author.Tests.{le-leb, lt-leb}
 use lib.Dec.{leb}
-use lib.ListN.{length, get_or, set, length_set, replicate, get_or-eq_default}
-use lib.Seq.{ext_get_or, get_or_set_same, get_or_set_other}
+use lib.ListN.{length, get_or, set, length-set, replicate, get_or-eq_default}
+use lib.Seq.{ext_get_or, get_or-set_same, get_or-set_other}
 use Rattle.curve.specs.declared.Rect.{Rect}
 use Rattle.curve.specs.Limits.{places}
 use Rattle.curve.specs.Rect.{zero_rect}
@@ -37,13 +37,13 @@ module _ {A : Type 0} where
   -- a store makes another tabulated list
   pub set_tabulate : (m : ℕ) (f g : ℕ → A) (d : A) (k : ℕ) (v : A) → k < m → v ≡ g k → ((i : ℕ) → (i ≡ k → ⊥) → f i ≡ g i) → set (tabulate m f) k v ≡ tabulate m g
   set_tabulate m f g d k v h new old =
-      is_tabulate m g d (set (tabulate m f) k v) (length_set (tabulate m f) k v ∙ length-tabulate m f) (λ i hi. at i hi (ℕ_discrete i k))
+      is_tabulate m g d (set (tabulate m f) k v) (length-set (tabulate m f) k v ∙ length-tabulate m f) (λ i hi. at i hi (ℕ_discrete i k))
     where
       at : (i : ℕ) → i < m → Dec (i ≡ k) → get_or (set (tabulate m f) k v) i d ≡ g i
       at i hi (yes e) =
           subst (λ (j : ℕ). get_or (set (tabulate m f) k v) j d ≡ g j) (sym e)
-          (get_or_set_same (tabulate m f) k v d (let len = length-tabulate m f in omega arith) ∙ new)
-      at i hi (no ne) = get_or_set_other (tabulate m f) k i v d ne ∙ get_d_tabulate m f i d hi ∙ old i ne
+          (get_or-set_same (tabulate m f) k v d (let len = length-tabulate m f in omega arith) ∙ new)
+      at i hi (no ne) = get_or-set_other (tabulate m f) k i v d ne ∙ get_d_tabulate m f i d hi ∙ old i ne
 
 -- ---- a record's places
 

@@ -2,7 +2,7 @@
 -- Assumes nothing.
 use mathlib.Core.Path.{◌≡◌, refl, sym, ap, ap₂, ◌∙◌, subst, subst₂}
 use Prim.Native.Nat.{ℕ, ◌+◌, ◌*◌, ◌-◌, ◌/◌, ◌^◌, ◌≤◌, ◌<◌}
-use native.Mathlib.Nat.{mul_le_mul, mul-le-mul_left, mul-le-mul_right, le_of_mul-le-mul_right, lt_of_mul-lt-mul_right, div-mul-le_self, lt-div-mul-add}
+use native.Mathlib.Nat.{mul-le-mul, mul-le-mul_left, mul-le-mul_right, le_of_mul-le-mul_right, lt_of_mul-lt-mul_right, div-mul-le_self, lt-div-mul-add}
 use native.Mathlib.Omega.{arith}
 use lib.IntN.{ℤ, pos, negsuc, neg_ℤ, ◌+ℤ◌, ◌-ℤ◌, ◌*ℤ◌, +ℤ_comm, +ℤ_assoc, +ℤ_idr, +ℤ-neg_ℤ_cancel, pos-+ℤ-pos, pos-*ℤ-pos}
 use lib.Signed.{◌≤ℤ◌}
@@ -45,13 +45,13 @@ module _ (by : ℕ) (w : Weights) (far : by ≤ 33554432 + w.lift) (h : Weighed 
 
   -- the two products fit 64 bits
   pub part-product : by * w.part ≤ 67174399 * (scale + max_degree)
-  part-product = mul_le_mul {n₁ = by} {m₁ = w.part} {n₂ = 67174399} by_small part_small
+  part-product = mul-le-mul {n₁ = by} {m₁ = w.part} {n₂ = 67174399} by_small part_small
 
   pub factor-product : by * w.t ≤ 67174399 * max_den
   factor-product =
       let small = h.factor.small in
       let most = h.factor.most in
-      mul_le_mul {n₁ = by} {m₁ = w.t} {n₂ = 67174399} {m₂ = max_den} by_small (omega arith)
+      mul-le-mul {n₁ = by} {m₁ = w.t} {n₂ = 67174399} {m₂ = max_den} by_small (omega arith)
 
   -- the estimate is off by less than 1
   pub nearby : Step (by * w.t) w.den near

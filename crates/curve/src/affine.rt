@@ -17,7 +17,7 @@ const FARTHEST: u32 = 33554432;
 
 // What the maps share in which the second point has the factor t of the divisor den: `part`, t / den in parts of the scale, rounded up,
 // and `lift`, a multiple of den that no two sides are farther apart than, with `back`, t / den of it.
-#[derive(Drop)]
+#[derive(Clone, Copy)]
 pub struct Weights {
     pub t: u32,
     pub den: u32,
@@ -65,7 +65,7 @@ pub fn weights_at(s: u32, t: u32) -> Weights
 }
 
 // A quotient, and whether its division left no remainder.
-#[derive(Drop)]
+#[derive(Clone, Copy)]
 struct Quotient {
     steps: i32,
     exact: bool,
@@ -89,19 +89,19 @@ fn quotient_of(distance: u32, w: Weights, up: bool) -> Quotient
 }
 
 // A mapped side, interval or rectangle, and whether no division left a remainder.
-#[derive(Drop)]
+#[derive(Clone, Copy)]
 pub struct SideMap {
     pub side: i32,
     pub exact: bool,
 }
 
-#[derive(Drop)]
+#[derive(Clone, Copy)]
 struct IntervalMap {
     interval: Interval,
     exact: bool,
 }
 
-#[derive(Drop)]
+#[derive(Clone, Copy)]
 pub struct RectMap {
     pub rect: Rect,
     pub exact: bool,

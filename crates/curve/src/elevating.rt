@@ -9,7 +9,7 @@ use crate::zeros::zero_rect;
 use crate::{Curve, PLACES, Rect};
 
 // The control points, and whether no map left a remainder.
-#[derive(Drop)]
+#[derive(Clone, Copy)]
 pub struct Elevated {
     pub points: [Rect; PLACES],
     pub exact: bool,

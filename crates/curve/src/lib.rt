@@ -1,5 +1,7 @@
 // The load of an antenna across a band as an interval Bézier curve: records, and the calls that evaluate, subdivide, elevate and bound it.
 // Every call takes any record and any numbers, answers a refusal for bad input, and equals its definition in specs/Calls.antt.
+#![tactic(auto)]
+
 ghost use Rattle.std.specs.Prelude.{◌≡◌};
 ghost use Rattle.curve.specs.Calls.{evaluated, subdivided, elevated, bounded};
 
@@ -65,7 +67,7 @@ const NOT_REFUSED: Refusal = Refusal {
 
 // The values from low to high, in steps, both ends included. It lies in memory as C lays it out, and so does a rectangle: callers in C lend records that hold one.
 #[repr(C)]
-#[derive(Drop)]
+#[derive(Clone, Copy)]
 pub struct Interval {
     pub low: i32,
     pub high: i32,
@@ -73,7 +75,7 @@ pub struct Interval {
 
 // A rectangle of loads.
 #[repr(C)]
-#[derive(Drop)]
+#[derive(Clone, Copy)]
 pub struct Rect {
     pub resistance: Interval,
     pub reactance: Interval,
@@ -81,7 +83,7 @@ pub struct Rect {
 
 // A curve of a degree n, whose control points are the rectangles 0 to n; places past n are not read. The sum of steps tells how far a side may lie beyond that of
 // the same cuts and raisings without rounding, from the card on. The points stand first, where they are copied fastest.
-#[derive(Drop)]
+#[derive(Clone, Copy)]
 pub struct Curve {
     pub points: [Rect; PLACES],
     pub degree: u32,
@@ -89,14 +91,14 @@ pub struct Curve {
 }
 
 // A refusal's number and place. Number 0 says that the call was accepted.
-#[derive(Drop)]
+#[derive(Clone, Copy)]
 pub struct Refusal {
     pub number: u32,
     pub place: usize,
 }
 
 // A rectangle in ohms: resistance (R) and reactance (X), low and high.
-#[derive(Drop)]
+#[derive(Clone, Copy)]
 pub struct Ohms {
     pub rlow: f32,
     pub rhigh: f32,
@@ -105,7 +107,7 @@ pub struct Ohms {
 }
 
 // The answer of evaluate, and of the reading at sixteenths. The flag `exact` of each answer tells that no division left a remainder; it is dark, false, where the call is refused.
-#[derive(Drop)]
+#[derive(Clone, Copy)]
 pub struct Evaluation {
     pub refusal: Refusal,
     pub load: Rect,
@@ -114,7 +116,7 @@ pub struct Evaluation {
 }
 
 // The answer of subdivide.
-#[derive(Drop)]
+#[derive(Clone, Copy)]
 pub struct Subdivision {
     pub refusal: Refusal,
     pub left: Curve,
@@ -123,7 +125,7 @@ pub struct Subdivision {
 }
 
 // The answer of elevate.
-#[derive(Drop)]
+#[derive(Clone, Copy)]
 pub struct Elevation {
     pub refusal: Refusal,
     pub curve: Curve,
@@ -131,7 +133,7 @@ pub struct Elevation {
 }
 
 // The answer of bounds.
-#[derive(Drop)]
+#[derive(Clone, Copy)]
 pub struct BoundingRect {
     pub refusal: Refusal,
     pub rect: Rect,

@@ -5,7 +5,7 @@ use mathlib.Core.List.{List, [], ◌∷◌, ◌++◌}
 use Prim.Native.Nat.{ℕ, ◌+◌, ◌≤◌, ◌<◌}
 use native.Mathlib.Nat.{zero-add}
 use native.Mathlib.Omega.{arith}
-use lib.ListN.{length, get_or, drop, length_append, length-drop}
+use lib.ListN.{length, get_or, drop, length-append, length-drop}
 use lib.Seq.{sets, sets-eq, take_at, drop_at, drop-drop, drop-cons}
 
 module _ {A : Type 0} where
@@ -14,7 +14,7 @@ module _ {A : Type 0} where
   front xs out = xs ++ drop (length xs) out
 
   pub front_length : (xs out : List A) → length xs ≤ length out → length (front xs out) ≡ length out
-  front_length xs out room = simp (length_append, length-drop) (omega arith)
+  front_length xs out room = simp (length-append, length-drop) (omega arith)
 
   -- stored one after the other from the first place on
   pub front-first : (xs out : List A) → length xs ≤ length out → sets out 0 xs ≡ front xs out
@@ -29,7 +29,7 @@ module _ {A : Type 0} where
       sym (drop-drop (length ys) m (xs ++ rest))
       ∙ ap (λ (l : List A). drop (length ys) l) (drop_at xs rest m long)
       ∙ drop-drop (length ys) (length xs) out
-      ∙ ap (λ (n : ℕ). drop n out) (sym (length_append xs ys)) in
+      ∙ ap (λ (n : ℕ). drop n out) (sym (length-append xs ys)) in
       sets-eq ys (front xs out) m (omega arith)
       ∙ ap₂ (λ (a b : List A). a ++ ys ++ b) (take_at xs rest m long) past
 

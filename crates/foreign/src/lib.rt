@@ -1,6 +1,8 @@
 // Every public call on numbers and lent slices, for C and Rust to call. Prototypes and the layout of curves are in include/jusqani.h.
 // Each takes any slices, and gives what the call within gives (specs/Calls.antt) or refuses; a refused call stores nothing.
 // The version of the calls stands in each of their names, so that a program compiled for another one does not link.
+#![tactic(auto)]
+
 ghost use Rattle.std.specs.Prelude.{◌≡◌};
 ghost use Rattle.curve.specs.Calls.{evaluated, subdivided, elevated, bounded};
 ghost use Rattle.sixteenths.specs.Sixteenths.{evaluated_sixteenths};

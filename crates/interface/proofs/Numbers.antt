@@ -7,7 +7,7 @@ use native.Mathlib.Decide.{dec_lt}
 use native.Mathlib.Numerals.{add-one}
 use native.Mathlib.Omega.{arith}
 use lib.IntN.{ℤ}
-use lib.ListN.{length, length_append}
+use lib.ListN.{length, length-append}
 use lib.Seq.{get_or-append-add}
 use borrow.Author.Tests.{le-leb, lt-leb}
 use Rattle.rational.specs.Rounding.{Rounding, down, up}
@@ -22,7 +22,7 @@ module _ (P : ℕ → Rect) where
   pub sides-length : (m : ℕ) → length (sides_to m P) ≡ 4 * m
   unfolding sides_to
   sides-length zero = refl
-  sides-length (suc m) = length_append (sides_to m P) (sides (P m)) ∙ rw (sides-length m) (omega arith)
+  sides-length (suc m) = length-append (sides_to m P) (sides (P m)) ∙ rw (sides-length m) (omega arith)
 
   -- one rectangle more
   pub sides-next : (m : ℕ) → sides_to m P ++ sides (P m) ≡ sides_to (m + 1) P
@@ -59,7 +59,7 @@ rect-here xs p more at e = rect_had zs at room ∙ same-sides sided
     zs = xs ++ (sides p ++ more)
 
     room : at + 4 ≤ length zs
-    room = rw (length_append xs (sides p ++ more), length_append (sides p) more) (omega arith)
+    room = rw (length-append xs (sides p ++ more), length-append (sides p) more) (omega arith)
 
     here : (k n : ℕ) → n ≡ length xs + k → given_at zs n ≡ given_at (sides p ++ more) k
     here k n f = ap (λ (n : ℕ). given_at zs n) f ∙ get_or-append-add xs (sides p ++ more) k missing
@@ -84,5 +84,5 @@ rect_back head P (suc m) more k h = ap (λ (l : List ℤ). rect_at (head ++ l) (
     go back (no last) =
         let e : m ≡ k = omega arith in
         ap (λ (l : List ℤ). rect_at l (length head + 4 * k)) (sym (append_assoc head (sides_to m P) (sides (P m) ++ more)))
-        ∙ rect-here (head ++ sides_to m P) (P m) more (length head + 4 * k) (length_append head (sides_to m P) ∙ ap (λ (n : ℕ). length head + n) (sides-length P m ∙ ap (λ (n : ℕ). 4 * n) e))
+        ∙ rect-here (head ++ sides_to m P) (P m) more (length head + 4 * k) (length-append head (sides_to m P) ∙ ap (λ (n : ℕ). length head + n) (sides-length P m ∙ ap (λ (n : ℕ). 4 * n) e))
         ∙ ap P e

@@ -116,9 +116,9 @@ missing_out : in_range missing ≡ false
 unfolding in_range
 missing_out = refl
 
-and_false : (a : Bool) {b : Bool} → b ≡ false → (a && b) ≡ false
-and_false true e = e
-and_false false e = refl
+and-false : (a : Bool) {b : Bool} → b ≡ false → (a && b) ≡ false
+and-false true e = e
+and-false false e = refl
 
 false_and : {a : Bool} (b : Bool) → a ≡ false → (a && b) ≡ false
 false_and b e = ap (λ (a : Bool). a && b) e
@@ -126,7 +126,7 @@ false_and b e = ap (λ (a : Bool). a && b) e
 -- all four sides are missing wherever one is
 last_out : (zs : List ℤ) (at : ℕ) → length zs < at + 4 → ends_in_range (rect_at zs at).reactance ≡ false
 unfolding ends_in_range
-last_out zs at short = ap (λ (p : Rect). ends_in_range p.reactance) (Numbers.rect_lacking zs at short) ∙ and_false (in_range missing) missing_out
+last_out zs at short = ap (λ (p : Rect). ends_in_range p.reactance) (Numbers.rect_lacking zs at short) ∙ and-false (in_range missing) missing_out
 
 -- a refusal with this number, at this place or before it
 abbrev Before : ℕ → ℕ → Refusal → Type 0
@@ -148,7 +148,7 @@ first-failing ok number (suc m) from k low high bad =
 
 no_box : (zs : List ℤ) → length zs < 4 → is_box (rect_at zs 0) ≡ false
 unfolding is_box are_limits
-no_box zs short = and_false (are_limits (rect_at zs 0).resistance) (false_and _ (last_out zs 0 (omega arith)))
+no_box zs short = and-false (are_limits (rect_at zs 0).resistance) (false_and _ (last_out zs 0 (omega arith)))
 
 -- no degree counts as 0
 degree-zero : (z : ℤ) → (le_z (pos 1) z && le_z z (pos max_degree)) ≡ false → degree_of z ≡ 0
@@ -182,7 +182,7 @@ module _ (zs : List ℤ) where
         let same : c.degree ≡ n = ap (λ (x : Curve). x.degree) (with_degree zs good) in
         ap (λ (x : Curve). sides_in_range (point x lacking)) (with_degree zs good)
         ∙ ap sides_in_range (points_at n (λ k. rect_at zs (2 + 4 * k)) lacking (omega arith) (omega arith))
-        ∙ and_false (ends_in_range (rect_at zs (2 + 4 * lacking)).resistance) (last_out zs (2 + 4 * lacking) (omega arith))
+        ∙ and-false (ends_in_range (rect_at zs (2 + 4 * lacking)).resistance) (last_out zs (2 + 4 * lacking) (omega arith))
 
     refused : Before 2 lacking (range_refusal c)
     unfolding range_refusal

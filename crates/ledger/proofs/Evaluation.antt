@@ -2,7 +2,7 @@
 -- Assumes nothing.
 use mathlib.Core.Path.{◌≡◌, sym, ap, ◌∙◌, subst, subst₂}
 use Prim.Native.Nat.{ℕ, ◌+◌, ◌*◌, ◌-◌, ◌≤◌}
-use native.Mathlib.Nat.{mul-zero, zero-mul, one_mul, zero-add, mul-le-mul_left}
+use native.Mathlib.Nat.{mul-zero, zero-mul, one-mul, zero-add, mul-le-mul_left}
 use native.Mathlib.Omega.{arith}
 use lib.IntN.{ℤ, pos}
 use Rattle.rational.specs.Rounding.{Rounding, down, up}
@@ -59,8 +59,8 @@ outward down = under
 outward up = over
 
 pub outward_one : (r : Rounding) (m : ℕ) → error (outward r) r * m ≡ m
-outward_one down m = one_mul m
-outward_one up m = one_mul m
+outward_one down m = one-mul m
+outward_one up m = one-mul m
 
 pub near_itself : (way : Side) (s : ℤ) → Near way 0 s (embed s)
 near_itself over s = order_excess (≤ℚ-refl (embed s))

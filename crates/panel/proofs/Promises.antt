@@ -8,7 +8,7 @@ use native.Mathlib.Nat.{div-add-mod', div-div-eq-div-mul, mod-eq_of_lt}
 use native.Mathlib.Omega.{arith}
 use lib.Dec.{eqb}
 use lib.IntN.{ℤ, pos, negsuc, ◌-ℤ◌}
-use lib.ListN.{length, get_or, drop, length_append, length-drop}
+use lib.ListN.{length, get_or, drop, length-append, length-drop}
 use lib.Seq.{get_or-drop, get_or-append-add}
 use mir.Syntax.{w32}
 use mir.Val.{SFits}
@@ -102,7 +102,7 @@ module _ (card : List ℕ) (num den : ℕ) (out : List ℕ) where
   size : length (panel_bytes card num den out) ≡ length out
   size =
       either (λ l. length l ≡ length out)
-      (λ room. length_append (load_bytes (panel_load card num den)) (drop load_length out) ∙ rw (load_long (panel_load card num den), length-drop) (omega arith))
+      (λ room. length-append (load_bytes (panel_load card num den)) (drop load_length out) ∙ rw (load_long (panel_load card num den), length-drop) (omega arith))
       refl
 
   later : (k : ℕ) → load_length ≤ k → get_or (panel_bytes card num den out) k 0 ≡ get_or out k 0

@@ -1,5 +1,7 @@
 // The panel call: the front-panel program, written in C, gets the load of a card's curve as sixteen bytes.
 // It takes anything, answers a refusal's number for bad input, and equals its definitions in specs/Panel.antt.
+#![tactic(auto)]
+
 ghost use Rattle.std.specs.Prelude.{◌≡◌, length};
 ghost use Rattle.panel.specs.Panel.{panel_refusal, panel_bytes};
 

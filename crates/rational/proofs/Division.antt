@@ -8,7 +8,7 @@ use lib.IntN.{ℤ, pos, ◌+ℤ◌, ◌*ℤ◌, zero-*ℤ}
 use lib.Signed.{◌≤ℤ◌}
 use Rattle.rational.specs.Rounding.{Rounding, quotient}
 use Rattle.rational.specs.Fraction.{Frac, ◌*ᶠ◌, ◌^ᶠ◌, whole}
-use Rattle.rational.proofs.Whole.{mul_assoc, one_mul}
+use Rattle.rational.proofs.Whole.{mul_assoc, one-mul}
 use Rattle.rational.proofs.Order.{pos_mono, *ℤ-mono, ≤ℤ-antisymm}
 use Rattle.rational.proofs.Quotient.{above, below, quotient-upper, quotient-lower, quotient-greatest, quotient-least}
 use Rattle.rational.proofs.Rational.{rational-ring, ℚ, rat, rat_equal, rat_mul, ◌+ℚ◌, ◌*ℚ◌, embed, embed_add, embed_mul, *ℚ-one, one-*ℚ, *ℚ-comm, *ℚ-assoc, *ℚ-distrib_right}
@@ -52,7 +52,7 @@ module _ (d : ℕ) (positive : 0 < d) where
 
   -- two weights that add up to d
   pub ratio_weights : (s t : ℕ) → s + t ≡ d → ratio (pos s) +ℚ ratio (pos t) ≡ embed (pos 1)
-  ratio_weights s t h = sym (ratio_add (pos s) (pos t)) ∙ ap (λ (n : ℕ). ratio (pos n)) h ∙ ap ratio (sym (one_mul (pos d))) ∙ ratio_whole (pos 1)
+  ratio_weights s t h = sym (ratio_add (pos s) (pos t)) ∙ ap (λ (n : ℕ). ratio (pos n)) h ∙ ap ratio (sym (one-mul (pos d))) ∙ ratio_whole (pos 1)
 
   -- ---- order
 

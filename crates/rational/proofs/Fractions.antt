@@ -4,7 +4,7 @@ use mathlib.Core.Path.{◌≡◌, sym, ◌∙◌, ap}
 use lib.IntN.{ℤ, pos, ◌+ℤ◌, ◌*ℤ◌}
 use Rattle.rational.specs.Fraction.{◌+ᶠ◌, ◌*ᶠ◌, whole}
 use Rattle.rational.specs.Promises.{ByValue, CommonLower}
-use Rattle.rational.proofs.Whole.{integer-ring, mul_one}
+use Rattle.rational.proofs.Whole.{integer-ring, mul-one}
 use Rattle.rational.proofs.Order.{*ℤ-mono, *ℤ-cancel}
 use Rattle.rational.proofs.Rational.{add_equal, mul_equal}
 use Rattle.rational.proofs.RationalOrder.{keeps}
@@ -25,4 +25,4 @@ common_lower d h u v = record {
     summed u v d = simp integer-ring
 
     multiplied : (u v d e : ℤ) → u *ℤ v *ℤ (d *ℤ e) *ℤ pos 1 ≡ u *ℤ v *ℤ (d *ℤ e *ℤ pos 1)
-    multiplied u v d e = mul_one (u *ℤ v *ℤ (d *ℤ e)) ∙ ap (λ x. u *ℤ v *ℤ x) (sym (mul_one (d *ℤ e)))
+    multiplied u v d e = mul-one (u *ℤ v *ℤ (d *ℤ e)) ∙ ap (λ x. u *ℤ v *ℤ x) (sym (mul-one (d *ℤ e)))

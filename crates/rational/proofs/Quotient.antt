@@ -10,7 +10,7 @@ use lib.IntN.{ℤ, pos, negsuc, neg_ℤ, ◌+ℤ◌, ◌*ℤ◌, +ℤ_assoc, +�
 use lib.Signed.{◌≤ℤ◌, ≤ℤ_refl, clash_ℤ}
 use Rattle.rational.specs.Rounding.{Rounding, down, up, floor, ceiling, quotient}
 use Rattle.rational.specs.Promises.{RoundsDown, RoundsUp}
-use Rattle.rational.proofs.Whole.{add_mul, add_left_comm, mul_assoc, neg_mul, one_mul}
+use Rattle.rational.proofs.Whole.{add_mul, add_left_comm, mul_assoc, neg_mul, one-mul}
 use Rattle.rational.proofs.Order.{≤ℤ-trans, ≤ℤ-antisymm, ≤ℤ-reflexive, ≤ℤ-certificate, ≤ℤ-increase, ≤ℤ-or-<ℤ, <ℤ-suc, suc-<ℤ, pos_mono, negℤ-anti, +ℤ-mono, +ℤ-mono_right, *ℤ-mono, *ℤ-mono_left, *ℤ-cancel}
 
 -- by how much at most a rounded quotient lies above or below the exact one
@@ -47,7 +47,7 @@ module _ (d : ℕ) (positive : 0 < d) where
           regroup n a b c = simp (+ℤ_assoc, +ℤ_comm, add_left_comm)
 
   next : (f : ℤ) → f *ℤ pos d +ℤ pos d ≡ (f +ℤ pos 1) *ℤ pos d
-  next f = ap (λ x. f *ℤ pos d +ℤ x) (sym (one_mul (pos d))) ∙ sym (add_mul f (pos 1) (pos d))
+  next f = ap (λ x. f *ℤ pos d +ℤ x) (sym (one-mul (pos d))) ∙ sym (add_mul f (pos 1) (pos d))
 
   floor-greatest : (m z : ℤ) → (m *ℤ pos d) ≤ℤ z → m ≤ℤ floor z d
   floor-greatest m z h = elim (≤ℤ-or-<ℤ m (floor z d)) [
@@ -96,11 +96,11 @@ module _ (d : ℕ) (positive : 0 < d) where
   pub quotient-upper : (r : Rounding) (z : ℤ) → (quotient r z d *ℤ pos d) ≤ℤ (z +ℤ pos (above r) *ℤ pos d)
   unfolding quotient
   quotient-upper down z = ≤ℤ-trans (floor_below z) (≤ℤ-increase z (0 * d))
-  quotient-upper up z = ≤ℤ-trans (≤ℤ-increase (ceiling z d *ℤ pos d) 1) (subst (λ x. (ceiling z d *ℤ pos d +ℤ pos 1) ≤ℤ (z +ℤ x)) (sym (one_mul (pos d))) (ceiling_below z))
+  quotient-upper up z = ≤ℤ-trans (≤ℤ-increase (ceiling z d *ℤ pos d) 1) (subst (λ x. (ceiling z d *ℤ pos d +ℤ pos 1) ≤ℤ (z +ℤ x)) (sym (one-mul (pos d))) (ceiling_below z))
 
   pub quotient-lower : (r : Rounding) (z : ℤ) → z ≤ℤ (quotient r z d *ℤ pos d +ℤ pos (below r) *ℤ pos d)
   unfolding quotient
-  quotient-lower down z = ≤ℤ-trans (≤ℤ-increase z 1) (subst (λ x. (z +ℤ pos 1) ≤ℤ (floor z d *ℤ pos d +ℤ x)) (sym (one_mul (pos d))) (floor_above z))
+  quotient-lower down z = ≤ℤ-trans (≤ℤ-increase z 1) (subst (λ x. (z +ℤ pos 1) ≤ℤ (floor z d *ℤ pos d +ℤ x)) (sym (one-mul (pos d))) (floor_above z))
   quotient-lower up z = ≤ℤ-trans (ceiling_above z) (≤ℤ-increase (ceiling z d *ℤ pos d) (0 * d))
 
   -- a whole number at most the exact quotient is at most the rounded one, and one at least the exact quotient at least the rounded one

@@ -5,7 +5,7 @@ use mathlib.Core.Quot.Quotient
 use mathlib.Core.Quot.{Setoid, Quotient, Quotient-set}
 use lib.IntN.{ℤ, pos, neg_ℤ, ◌+ℤ◌, ◌-ℤ◌, ◌*ℤ◌, +ℤ_comm, *ℤ_comm, +ℤ_idl, +ℤ_invr, zero-*ℤ}
 use Rattle.rational.specs.Fraction.{Frac, Equal, ◌+ᶠ◌, ◌*ᶠ◌, whole, complement}
-use Rattle.rational.proofs.Whole.{integer-ring, mul_assoc, mul_left_comm, add_mul, neg_mul, mul_one, one_mul}
+use Rattle.rational.proofs.Whole.{integer-ring, mul_assoc, mul_left_comm, add_mul, neg_mul, mul-one, one-mul}
 use Rattle.rational.proofs.Order.{*ℤ-equal_cancel}
 
 -- products in another order
@@ -192,14 +192,14 @@ unfolding ℚ rat ◌*ℚ◌ ◌*ᶠ◌ embed whole
 zero-*ℚ = by_fractions (λ x. embed (pos 0) *ℚ x ≡ embed (pos 0)) (λ x. ℚ-set _ _) (λ a. rat_equal (whole (pos 0) *ᶠ a) (whole (pos 0)) (law a.upper (pos a.lower)))
   where
     law : (u l : ℤ) → pos 0 *ℤ u *ℤ pos 1 ≡ pos 0 *ℤ (pos 1 *ℤ l)
-    law u l = mul_one (pos 0 *ℤ u) ∙ zero-*ℤ u ∙ sym (zero-*ℤ (pos 1 *ℤ l))
+    law u l = mul-one (pos 0 *ℤ u) ∙ zero-*ℤ u ∙ sym (zero-*ℤ (pos 1 *ℤ l))
 
 pub +ℚ-invr : (x : ℚ) → x +ℚ negℚ x ≡ embed (pos 0)
 unfolding ℚ rat ◌+ℚ◌ ◌+ᶠ◌ negℚ opposite embed whole
 +ℚ-invr = by_fractions (λ x. x +ℚ negℚ x ≡ embed (pos 0)) (λ x. ℚ-set _ _) (λ a. rat_equal (a +ᶠ opposite a) (whole (pos 0)) (law a.upper (pos a.lower)))
   where
     law : (u l : ℤ) → (u *ℤ l +ℤ neg_ℤ u *ℤ l) *ℤ pos 1 ≡ pos 0 *ℤ (l *ℤ l)
-    law u l = mul_one (u *ℤ l +ℤ neg_ℤ u *ℤ l) ∙ sym (add_mul u (neg_ℤ u) l) ∙ ap (λ x. x *ℤ l) (+ℤ_invr u) ∙ zero-*ℤ l ∙ sym (zero-*ℤ (l *ℤ l))
+    law u l = mul-one (u *ℤ l +ℤ neg_ℤ u *ℤ l) ∙ sym (add_mul u (neg_ℤ u) l) ∙ ap (λ x. x *ℤ l) (+ℤ_invr u) ∙ zero-*ℤ l ∙ sym (zero-*ℤ (l *ℤ l))
 
 pub +ℚ-zero : (x : ℚ) → x +ℚ embed (pos 0) ≡ x
 +ℚ-zero x = +ℚ-comm x (embed (pos 0)) ∙ zero-+ℚ x
@@ -221,7 +221,7 @@ unfolding ℚ rat ◌+ℚ◌ ◌+ᶠ◌ negℚ opposite embed whole complement
 rat_complement a = rat_equal (complement a) (whole (pos 1) +ᶠ opposite a) (law a.upper (pos a.lower))
   where
     law : (u l : ℤ) → (l -ℤ u) *ℤ (pos 1 *ℤ l) ≡ (pos 1 *ℤ l +ℤ neg_ℤ u *ℤ pos 1) *ℤ l
-    law u l = ap (λ x. (l -ℤ u) *ℤ x) (one_mul l) ∙ ap₂ (λ x y. (x +ℤ y) *ℤ l) (sym (one_mul l)) (sym (mul_one (neg_ℤ u)))
+    law u l = ap (λ x. (l -ℤ u) *ℤ x) (one-mul l) ∙ ap₂ (λ x y. (x +ℤ y) *ℤ l) (sym (one-mul l)) (sym (mul-one (neg_ℤ u)))
 
 -- ---- whole numbers
 
@@ -231,7 +231,7 @@ rat_whole z = refl
 
 pub embed_add : (a b : ℤ) → embed (a +ℤ b) ≡ embed a +ℚ embed b
 unfolding ℚ rat ◌+ℚ◌ ◌+ᶠ◌ embed whole
-embed_add a b = rat_equal (whole (a +ℤ b)) (whole a +ᶠ whole b) (ap (λ x. x *ℤ pos 1) (ap₂ (λ x y. x +ℤ y) (sym (mul_one a)) (sym (mul_one b))))
+embed_add a b = rat_equal (whole (a +ℤ b)) (whole a +ᶠ whole b) (ap (λ x. x *ℤ pos 1) (ap₂ (λ x y. x +ℤ y) (sym (mul-one a)) (sym (mul-one b))))
 
 pub embed_mul : (a b : ℤ) → embed (a *ℤ b) ≡ embed a *ℚ embed b
 unfolding ℚ rat ◌*ℚ◌ ◌*ᶠ◌ embed whole

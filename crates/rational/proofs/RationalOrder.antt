@@ -10,7 +10,7 @@ use lib.Dec.{lit<, T, T_prop}
 use lib.IntN.{ℤ, pos, ◌+ℤ◌, ◌*ℤ◌, zero-*ℤ}
 use lib.Signed.{◌≤ℤ◌, ≤ℤ_refl, le_z, le_z_yes}
 use Rattle.rational.specs.Fraction.{Frac, Equal, ◌≤ᶠ◌, ◌+ᶠ◌, ◌*ᶠ◌, whole}
-use Rattle.rational.proofs.Whole.{integer-ring, mul_one}
+use Rattle.rational.proofs.Whole.{integer-ring, mul-one}
 use Rattle.rational.proofs.Order.{≤ℤ-certificate, ≤ℤ-antisymm, ≤ℤ-trans, ≤ℤ-reflexive, *ℤ-mono, *ℤ-mono_nonneg, *ℤ-cancel}
 use Rattle.rational.proofs.Rational.{ℚ, ℚ-set, rat, rat_equal, fractions, by_fractions, by-fractions₂, by-fractions₃, rat_add, rat_mul, negℚ, ◌+ℚ◌, ◌*ℚ◌, embed, +ℚ-comm, +ℚ-cancel, *ℚ-comm, zero-*ℚ}
 
@@ -151,7 +151,7 @@ unfolding embed whole ◌*ᶠ◌
     }
       where
         nonneg : pos 0 ≤ℤ c.upper
-        nonneg = subst₂ (λ x y. x ≤ℤ y) (zero-*ℤ (pos c.lower)) (mul_one c.upper) k.crosswise
+        nonneg = subst₂ (λ x y. x ≤ℤ y) (zero-*ℤ (pos c.lower)) (mul-one c.upper) k.crosswise
 
         product : pos 0 ≤ℤ (c.upper *ℤ pos c.lower)
         product = subst (λ x. x ≤ℤ (c.upper *ℤ pos c.lower)) (zero-*ℤ (pos c.lower)) (*ℤ-mono c.lower nonneg)

@@ -44,11 +44,11 @@ mul_assoc a b c = induction (λ x. x *ℤ b *ℤ c ≡ x *ℤ (b *ℤ c))
 pub mul_left_comm : (a b c : ℤ) → a *ℤ (b *ℤ c) ≡ b *ℤ (a *ℤ c)
 mul_left_comm a b c = sym (mul_assoc a b c) ∙ ap (λ x. x *ℤ c) (*ℤ_comm a b) ∙ mul_assoc b a c
 
-pub one_mul : (z : ℤ) → pos 1 *ℤ z ≡ z
-one_mul z = suc_ℤ-*ℤ (pos zero) z ∙ ap (λ x. x +ℤ z) (zero-*ℤ z) ∙ +ℤ_idl z
+pub one-mul : (z : ℤ) → pos 1 *ℤ z ≡ z
+one-mul z = suc_ℤ-*ℤ (pos zero) z ∙ ap (λ x. x +ℤ z) (zero-*ℤ z) ∙ +ℤ_idl z
 
-pub mul_one : (z : ℤ) → z *ℤ pos 1 ≡ z
-mul_one z = *ℤ_comm z (pos 1) ∙ one_mul z
+pub mul-one : (z : ℤ) → z *ℤ pos 1 ≡ z
+mul-one z = *ℤ_comm z (pos 1) ∙ one-mul z
 
 -- multiplies out, then sorts products and sums
 pub ruleset integer-ring = (add_mul, mul_add, +ℤ_assoc, +ℤ_comm, add_left_comm, mul_assoc, *ℤ_comm, mul_left_comm)

@@ -1,5 +1,7 @@
 // The walk over a box: whether every load of a curve lies in the box, found by cutting the curve into pieces. The box is called `limits`; its low sides lie inside it, its high sides outside.
 // The call takes any record and any numbers, answers a refusal for bad input, and equals its definition in specs/Search.antt.
+#![tactic(auto)]
+
 ghost use Rattle.std.specs.Prelude.{◌≡◌, ◌+◌, ◌*◌};
 ghost use Rattle.curve.specs.Refusals.{sum_refusal};
 ghost use Rattle.search.specs.Search.{effort_refusal, box_refusal, search_refusal, searched};
@@ -27,7 +29,7 @@ pub const MAX_DEPTH: u32 = 12;
 pub const MAX_BUDGET: u32 = 8191;
 
 // How a walk ended, with the number of pieces looked at; Outside and Undecided name a piece by its depth and index. A refused walk has nothing to tell.
-#[derive(Drop)]
+#[derive(Clone, Copy)]
 pub enum Verdict {
     Refused,
     Inside(u32),
@@ -37,7 +39,7 @@ pub enum Verdict {
 }
 
 // The answer of search.
-#[derive(Drop)]
+#[derive(Clone, Copy)]
 pub struct SearchAnswer {
     pub refusal: Refusal,
     pub verdict: Verdict,

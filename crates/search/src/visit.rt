@@ -8,7 +8,7 @@ use crate::verdicts::{count_of, goes_on};
 use curve::{Curve, Rect};
 
 // The walk has ended before the piece, or its budget is spent; or the piece's span lies in the box, is apart from it, or neither.
-#[derive(Drop)]
+#[derive(Clone, Copy)]
 pub enum Visit {
     Ended,
     Exhausted,

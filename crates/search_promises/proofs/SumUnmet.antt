@@ -2,7 +2,7 @@
 -- Assumes nothing.
 use mathlib.Core.Path.{◌≡◌, refl, sym, ap, ap₂, ◌∙◌, subst, subst₂, fun_ext}
 use Prim.Native.Nat.{ℕ, zero, suc, ◌+◌, ◌*◌, ◌/◌, ◌%◌, ◌≤◌, ◌<◌}
-use native.Mathlib.Nat.{one_mul, suc-mul}
+use native.Mathlib.Nat.{one-mul, suc-mul}
 use native.Mathlib.Omega.{arith}
 use mathlib.Core.Bool.{false}
 use lib.Dec.{eqb}
@@ -57,7 +57,7 @@ half_room : (c piece : Curve) (below : ℕ) → Reached c 1 piece → AcceptedSu
 half_room c piece below r room = subst AcceptedSum (sym (ap₂ (λ (s n : ℕ). s + below * n) r.sums r.degrees ∙ same)) room
   where
     same : deepest_sum c 1 + below * c.degree ≡ deepest_sum c (suc below)
-    same = let one = one_mul c.degree in let more = suc-mul below c.degree in omega arith
+    same = let one = one-mul c.degree in let more = suc-mul below c.degree in omega arith
 
 -- ---- the walk
 

@@ -1,5 +1,7 @@
 // The fitted list of relay settings: the first record of a lent list whose box the curve stays in.
 // The call takes any record, any list and any numbers, answers a refusal for bad input, and equals its definition in specs/Settings.antt.
+#![tactic(auto)]
+
 ghost use Rattle.std.specs.Prelude.{◌≡◌};
 ghost use Rattle.settings.specs.Settings.{chosen};
 
@@ -15,14 +17,14 @@ pub const MAX_SETTINGS: usize = 64;
 
 // A relay setting: the box in which the load must stay, and the setting's number. It lies in memory as C lays it out, in 20 bytes.
 #[repr(C)]
-#[derive(Drop)]
+#[derive(Clone, Copy)]
 pub struct Setting {
     pub limits: Rect,
     pub number: u16,
 }
 
 // The first record that fits, or none. A refused call has nothing to tell.
-#[derive(Drop)]
+#[derive(Clone, Copy)]
 pub enum Choice {
     Refused,
     Fits { index: u32, number: u16 },
@@ -30,7 +32,7 @@ pub enum Choice {
 }
 
 // The answer of choose_setting.
-#[derive(Drop)]
+#[derive(Clone, Copy)]
 pub struct ChoiceAnswer {
     pub refusal: Refusal,
     pub choice: Choice,

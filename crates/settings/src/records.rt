@@ -10,7 +10,7 @@ use curve::{Curve, Rect, Refusal, first_of, refused_unless, zero_rect};
 use search::{apart_from, effort_refusal, in_box, is_box};
 
 // How far the list has been gone through. While a record is due, `at` is its index: first each box is checked, then the records are tried in their order. The curve's span is found once and goes along.
-#[derive(Drop)]
+#[derive(Clone, Copy)]
 pub struct Progress {
     pub due: bool,
     pub trying: bool,

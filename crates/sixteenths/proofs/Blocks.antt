@@ -8,7 +8,7 @@ use native.Mathlib.Decide.{ℕ_discrete}
 use native.Mathlib.Omega.{arith}
 use lib.Dec.{T, ltb, ltb→lt}
 use lib.ListN.{get_or, set, length}
-use lib.Seq.{get_or_set_same, get_or_set_other}
+use lib.Seq.{get_or-set_same, get_or-set_other}
 use Rattle.bernstein.specs.DeCasteljau.{all_below}
 use Rattle.bernstein.proofs.EveryMap.{all_at}
 use Rattle.sixteenths.specs.Weights.{sixteenths, highest, block, start, index, Rule}
@@ -21,8 +21,8 @@ pub stored_next :
 stored_next l f i room before k h = go (ℕ_discrete k i)
   where
     go : Dec (k ≡ i) → get_or (set l i (f i)) k 0 ≡ f k
-    go (yes e) = subst (λ (m : ℕ). get_or (set l i (f i)) m 0 ≡ f m) (sym e) (get_or_set_same l i (f i) 0 room)
-    go (no ne) = get_or_set_other l i k (f i) 0 ne ∙ before k (omega arith)
+    go (yes e) = subst (λ (m : ℕ). get_or (set l i (f i)) m 0 ≡ f m) (sym e) (get_or-set_same l i (f i) 0 room)
+    go (no ne) = get_or-set_other l i k (f i) 0 ne ∙ before k (omega arith)
 
 -- the entries of a degree lie among those of one j
 pub start-within : (n : ℕ) → 1 ≤ n → n ≤ highest → start n + n < block

@@ -2,7 +2,7 @@
 -- Assumes nothing.
 use mathlib.Core.Path.{◌≡◌, sym, ap, ◌∙◌}
 use Prim.Native.Nat.{ℕ, ◌+◌, ◌*◌, ◌≤◌}
-use native.Mathlib.Nat.{mul_le_mul}
+use native.Mathlib.Nat.{mul-le-mul}
 use native.Mathlib.Omega.{arith}
 use lib.IntN.{ℤ, pos, ◌+ℤ◌, nat_abs}
 use lib.Signed.{◌≤ℤ◌}
@@ -27,7 +27,7 @@ module _ {z : ℤ} (h : Side z) where
 
 -- a lifted side times a weight is at most 2 to the power 57
 pub weighed_most : (w : ℕ) {z : ℤ} → w ≤ largest_weight → Side z → w * lifted z ≤ largest_product
-weighed_most w light h = mul_le_mul light (lifted-most h)
+weighed_most w light h = mul-le-mul light (lifted-most h)
 
 -- so a sum of eight such products has room for one more
 pub has_room : (s w r : ℕ) {z : ℤ} → s ≤ highest * largest_product → w ≤ largest_weight → Side z → r ≡ w * lifted z → Fits w64 (s + r)

@@ -2,7 +2,7 @@
 -- Assumes nothing.
 use mathlib.Core.Path.{◌≡◌, refl, sym, ap, subst}
 use Prim.Native.Nat.{ℕ, zero, suc, ◌*◌, ◌%◌, ◌^◌, ◌≤◌}
-use native.Mathlib.Nat.{mul-suc, pow-suc, one_mul, mod-eq_of_lt}
+use native.Mathlib.Nat.{mul-suc, pow-suc, one-mul, mod-eq_of_lt}
 use native.Mathlib.Omega.{arith}
 use lib.Dec.{T, leb, leb→le}
 use lib.Pow.{pow-add}
@@ -20,4 +20,4 @@ power_most n few = leb→le (16 ^ n) 4294967296 (subst T (sym (all_at 9 (λ m. l
 pub shifted_one : (n : ℕ) → n ≤ 8 → (1 * 2 ^ (4 * n)) % 18446744073709551616 ≡ 16 ^ n
 shifted_one n few =
     let most = power_most n few in
-    rw (one_mul, shift_power) (mod-eq_of_lt (omega arith))
+    rw (one-mul, shift_power) (mod-eq_of_lt (omega arith))

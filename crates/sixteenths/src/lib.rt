@@ -1,5 +1,7 @@
 // The reading at the seventeen places j/16 by the Bernstein sum, taken whole and rounded outward once.
 // The call takes any curve and any j, answers a refusal for bad input, and equals its definition in specs/Sixteenths.antt.
+#![tactic(auto)]
+
 ghost use Rattle.std.specs.Prelude.{◌≡◌};
 ghost use Rattle.sixteenths.specs.Sixteenths.{sixteenths_refusal, evaluated_sixteenths};
 ghost use Rattle.sixteenths.specs.Inner.{answer};

@@ -10,14 +10,14 @@ use crate::sums::Sums;
 use curve::{Interval, MAX_SIDE, Rect};
 
 // One side, and whether its division left no remainder.
-#[derive(Drop)]
+#[derive(Clone, Copy)]
 struct Quotient {
     side: i32,
     exact: bool,
 }
 
 // A load, and whether none of its divisions left a remainder.
-#[derive(Drop)]
+#[derive(Clone, Copy)]
 pub struct Reading {
     pub load: Rect,
     pub exact: bool,

@@ -11,7 +11,7 @@ use crate::SIXTEENTHS;
 use crate::weights::{BLOCK, HIGHEST_DEGREE, weights_at};
 use curve::{Curve, MAX_SIDE, Rect, is_from_one_to, is_good};
 
-#[derive(Drop)]
+#[derive(Clone, Copy)]
 pub struct Sums {
     pub rlow: u64,
     pub rhigh: u64,
@@ -20,7 +20,7 @@ pub struct Sums {
 }
 
 // The sums, and whether the call is accepted, so that they are good.
-#[derive(Drop)]
+#[derive(Clone, Copy)]
 pub struct Pass {
     pub good: bool,
     pub sums: Sums,

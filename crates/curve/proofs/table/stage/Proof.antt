@@ -4,7 +4,7 @@ use mathlib.Core.Path.{◌≡◌, sym, ◌∙◌, subst}
 use Prim.Native.Nat.{ℕ, ◌+◌, ◌*◌, ◌-◌, ◌≤◌, ◌<◌}
 use native.Mathlib.Omega.{arith}
 use lib.IntN.{pos}
-use lib.ListN.{length, get_or, length_set}
+use lib.ListN.{length, get_or, length-set}
 use Rattle.curve.specs.Inner.{Side, all_sides}
 use Rattle.rational.proofs.Machine.{told}
 use Rattle.curve.proofs.Sides.{side_back, side_passed}
@@ -88,7 +88,7 @@ loop-again c =
     let long = l.loop.invariant.1 in
     rw (told f.result.side c.before.struct_told.given.0.1) (
       omega arith,
-      length_set l.loop.sides i f.result.side ∙ long,
+      length-set l.loop.sides i f.result.side ∙ long,
       (λ s total.
           passed_next s a.w.t a.w.den a.sides.now i l.loop.sides l.loop.exact f.result.exact f.result.side _ _ (l.loop.invariant.2 s total) (omega arith)
           (side_back (here t)) (side_back (there t)) (f.ensures s total).0 (f.ensures s total).1),

@@ -8,8 +8,8 @@ use native.Mathlib.Omega.{arith}
 use borrow.Author.Rules.{rules}
 use borrow.Author.Tests.{eq-eqb, ne_eqb}
 use lib.Dec.{eqb}
-use lib.ListN.{get_or, set, length_set}
-use lib.Seq.{get_or_set_same, get_or_set_other}
+use lib.ListN.{get_or, set, length-set}
+use lib.Seq.{get_or-set_same, get_or-set_other}
 use lib.IntN.{ℤ}
 use Rattle.rational.proofs.Machine.{told}
 use Rattle.curve.specs.declared.Rect.{Rect}
@@ -40,17 +40,17 @@ later-next f k h = ap (λ (p : Rect). set (points_of k (later f)) (k + 1) p) (sy
 
 -- and the first one at last
 first-last : (f : ℕ → Rect) (n : ℕ) → n < places → set (points_of n (later f)) 0 (f 0) ≡ points_of n f
-first-last f n few = is_points n f l (length_set (points_of n (later f)) 0 (f 0) ∙ points_length n (later f)) within past
+first-last f n few = is_points n f l (length-set (points_of n (later f)) 0 (f 0) ∙ points_length n (later f)) within past
   where
     l : List Rect
     l = set (points_of n (later f)) 0 (f 0)
 
     within : (k : ℕ) → k < places → k ≤ n → get_or l k zero_rect ≡ f k
-    within zero h low = get_or_set_same (points_of n (later f)) 0 (f 0) zero_rect (rw (points_length n (later f)) h)
-    within (suc k) h low = get_or_set_other (points_of n (later f)) 0 (suc k) (f 0) zero_rect (λ e. absurd (omega arith)) ∙ points_at n (later f) (suc k) h low ∙ is_later f (suc k) (omega arith)
+    within zero h low = get_or-set_same (points_of n (later f)) 0 (f 0) zero_rect (rw (points_length n (later f)) h)
+    within (suc k) h low = get_or-set_other (points_of n (later f)) 0 (suc k) (f 0) zero_rect (λ e. absurd (omega arith)) ∙ points_at n (later f) (suc k) h low ∙ is_later f (suc k) (omega arith)
 
     past : (k : ℕ) → k < places → n < k → get_or l k zero_rect ≡ zero_rect
-    past k h high = get_or_set_other (points_of n (later f)) 0 k (f 0) zero_rect (λ e. absurd (omega arith)) ∙ points_past n (later f) k high
+    past k h high = get_or-set_other (points_of n (later f)) 0 k (f 0) zero_rect (λ e. absurd (omega arith)) ∙ points_past n (later f) k high
 
 abbrev invariant-loop : tie.invariant-loop
 invariant-loop numbers degree last points₀ k₀ points k = (k ≤ last) × (points ≡ points_of k (later (rects numbers)))

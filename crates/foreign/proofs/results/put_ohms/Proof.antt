@@ -3,7 +3,7 @@
 use mathlib.Core.Path.{◌∙◌}
 use native.Mathlib.Omega.{arith}
 use borrow.Author.Rules.{rules}
-use lib.ListN.{length_set}
+use lib.ListN.{length-set}
 use Rattle.interface.specs.Numbers.{ohm_numbers}
 use Rattle.interface.proofs.Lent.{all_kept, value_stored}
 use Rattle.foreign.proofs.Lent.{front-first}
@@ -17,13 +17,13 @@ slice-write-out : tie.Need-slice-write-out
 slice-write-out c = let room = c.before.before.requires c.if1.false in omega arith
 
 slice-write-out-2 : tie.Need-slice-write-out-2
-slice-write-out-2 c = let room = c.before.before.requires c.if1.false in simp length_set (omega arith)
+slice-write-out-2 c = let room = c.before.before.requires c.if1.false in simp length-set (omega arith)
 
 slice-write-out-3 : tie.Need-slice-write-out-3
-slice-write-out-3 c = let room = c.before.before.requires c.if1.false in simp length_set (omega arith)
+slice-write-out-3 c = let room = c.before.before.requires c.if1.false in simp length-set (omega arith)
 
 slice-write-out-4 : tie.Need-slice-write-out-4
-slice-write-out-4 c = let room = c.before.before.requires c.if1.false in simp length_set (omega arith)
+slice-write-out-4 c = let room = c.before.before.requires c.if1.false in simp length-set (omega arith)
 
 returns-2 : tie.Need-returns-2
 returns-2 c =

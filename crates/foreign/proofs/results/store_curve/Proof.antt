@@ -6,7 +6,7 @@ use Prim.Native.Nat.{ℕ, ◌+◌, ◌*◌, ◌-◌, ◌≤◌}
 use native.Mathlib.Omega.{arith}
 use borrow.Author.Rules.{rules}
 use lib.IntN.{ℤ, pos}
-use lib.ListN.{length, get_or, set, length_set}
+use lib.ListN.{length, get_or, set, length-set}
 use lib.Seq.{sets}
 use mir.Syntax.{w32}
 use mir.Val.{to_z, of_z}
@@ -94,7 +94,7 @@ slice-set-from-out c = let same = kept c.before in let room = long-enough c.befo
 slice-set-from-out-2 : tie.Need-slice-set-from-out-2 invariant-loop decreases-loop
 slice-set-from-out-2 c =
     let l = c.before.before in
-    let same = length_set l.loop.out 0 (to_z w32 l.before.args.t2.degree) ∙ kept l in
+    let same = length-set l.loop.out 0 (to_z w32 l.before.args.t2.degree) ∙ kept l in
     let room = long-enough l.before in
     omega arith
 
@@ -102,7 +102,7 @@ same_length : tie.Need-same-length invariant-loop decreases-loop
 same_length c =
     let l = c.before.before in
     let first = set l.loop.out 0 (to_z w32 l.before.args.t2.degree) in
-    length_set first 1 (to_z w32 (of_z w32 c.Sum-Number.result)) ∙ length_set l.loop.out 0 (to_z w32 l.before.args.t2.degree) ∙ kept l
+    length-set first 1 (to_z w32 (of_z w32 c.Sum-Number.result)) ∙ length-set l.loop.out 0 (to_z w32 l.before.args.t2.degree) ∙ kept l
 
 returns : tie.Need-returns invariant-loop decreases-loop
 unfolding curve_numbers

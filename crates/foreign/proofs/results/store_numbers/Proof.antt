@@ -6,7 +6,7 @@ use Prim.Native.Nat.{ℕ, ◌+◌, ◌-◌, ◌≤◌, ◌<◌}
 use native.Mathlib.Nat.{zero-add}
 use native.Mathlib.Numerals.{add-one}
 use native.Mathlib.Omega.{arith}
-use lib.ListN.{length, get_or, set, drop, length_set}
+use lib.ListN.{length, get_or, set, drop, length-set}
 use lib.Seq.{paste, paste-suc, take-length}
 use Rattle.foreign.proofs.results.store_numbers.Statement.{statement}
 use Rattle.foreign.proofs.results.store_numbers.Tie as tie
@@ -48,7 +48,7 @@ loop-again c =
     let within : k < length numbers = omega arith in
     let room : 0 + k < length out = omega (arith, s.requires) in (
       omega arith,
-      length_set l.loop.out k _ ∙ l.loop.invariant.1,
+      length-set l.loop.out k _ ∙ l.loop.invariant.1,
       ap₂ (λ (o : List ℕ) (i : ℕ). set o i (get_or numbers k 0)) l.loop.invariant.2 (sym (zero-add k)) ∙ paste-suc out 0 numbers k 0 room within ∙ ap (paste out 0 numbers) (sym (add-one k)),
     )
 

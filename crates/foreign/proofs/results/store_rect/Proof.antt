@@ -3,19 +3,19 @@
 use native.Mathlib.Numerals.{add-one, add-two, add-three}
 use native.Mathlib.Omega.{arith}
 use borrow.Author.Rules.{rules}
-use lib.ListN.{length_set}
+use lib.ListN.{length-set}
 use Rattle.rational.proofs.Machine.{told}
 use Rattle.foreign.proofs.results.store_rect.Statement.{statement}
 use Rattle.foreign.proofs.results.store_rect.Tie as tie
 
 slice-set-from-rhigh : tie.Need-slice-set-from-rhigh
-slice-set-from-rhigh c = simp length_set (omega arith)
+slice-set-from-rhigh c = simp length-set (omega arith)
 
 slice-set-from-xlow : tie.Need-slice-set-from-xlow
-slice-set-from-xlow c = simp length_set (omega arith)
+slice-set-from-xlow c = simp length-set (omega arith)
 
 slice-set-from-xhigh : tie.Need-slice-set-from-xhigh
-slice-set-from-xhigh c = simp length_set (omega arith)
+slice-set-from-xhigh c = simp length-set (omega arith)
 
 returns : tie.Need-returns
 returns c =

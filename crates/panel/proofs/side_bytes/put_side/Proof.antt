@@ -5,7 +5,7 @@ use mathlib.Core.List.{List, [], ◌∷◌}
 use Prim.Native.Nat.{ℕ, ◌/◌, ◌%◌}
 use native.Mathlib.Numerals.{add-one, add-two, add-three}
 use native.Mathlib.Omega.{arith}
-use lib.ListN.{length_set}
+use lib.ListN.{length-set}
 use lib.Seq.{sets-eq}
 use borrow.Author.Rules.{rules}
 use Rattle.rational.proofs.Machine.{back}
@@ -30,7 +30,7 @@ add-out : tie.Need-overflow-add-out
 add-out c = search rules
 
 slice-write-out-2 : tie.Need-slice-write-out-2
-slice-write-out-2 c = simp length_set (omega (arith, c.before.before.requires))
+slice-write-out-2 c = simp length-set (omega (arith, c.before.before.requires))
 
 cast-out-3 : tie.Need-overflow-cast-out-3
 cast-out-3 c = search rules
@@ -39,7 +39,7 @@ add-out-2 : tie.Need-overflow-add-out-2
 add-out-2 c = search rules
 
 slice-write-out-3 : tie.Need-slice-write-out-3
-slice-write-out-3 c = simp length_set (omega (arith, c.before.before.requires))
+slice-write-out-3 c = simp length-set (omega (arith, c.before.before.requires))
 
 cast-out-4 : tie.Need-overflow-cast-out-4
 cast-out-4 c = search rules
@@ -48,7 +48,7 @@ add-out-3 : tie.Need-overflow-add-out-3
 add-out-3 c = search rules
 
 slice-write-out-4 : tie.Need-slice-write-out-4
-slice-write-out-4 c = simp length_set (omega (arith, c.before.before.requires))
+slice-write-out-4 c = simp length-set (omega (arith, c.before.before.requires))
 
 same_length : tie.Need-same-length
 same_length c = search rules

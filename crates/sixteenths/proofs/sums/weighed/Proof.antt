@@ -2,7 +2,7 @@
 -- Assumes nothing.
 use mathlib.Core.Path.{◌≡◌}
 use Prim.Native.Nat.{◌*◌, ◌≤◌}
-use native.Mathlib.Nat.{mul_le_mul}
+use native.Mathlib.Nat.{mul-le-mul}
 use native.Mathlib.Omega.{arith}
 use lib.IntN.{ℤ, pos, ◌+ℤ◌}
 use mir.Syntax.{w32}
@@ -29,7 +29,7 @@ cast-result c = let most = lifted-most c.requires.1 in rw (sum c, cast c) (tt, r
 
 mul-result : tie.Need-overflow-mul-result
 mul-result c =
-    let most : c.args.w * lifted c.args.side ≤ 4294967296 * 33554432 = mul_le_mul c.requires.0 (lifted-most c.requires.1) in
+    let most : c.args.w * lifted c.args.side ≤ 4294967296 * 33554432 = mul-le-mul c.requires.0 (lifted-most c.requires.1) in
     rw (sum c, cast c) (record { fits = omega arith })
 
 returns : tie.Need-returns

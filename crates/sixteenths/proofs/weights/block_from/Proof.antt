@@ -3,7 +3,7 @@
 use mathlib.Core.Path.{◌≡◌, refl, ◌∙◌}
 use Prim.Native.Nat.{ℕ, ◌+◌, ◌-◌, ◌≤◌, ◌<◌}
 use native.Mathlib.Omega.{arith}
-use lib.ListN.{get_or, length, length_set}
+use lib.ListN.{get_or, length, length-set}
 use Rattle.sixteenths.specs.Weights.{block}
 use Rattle.sixteenths.proofs.Blocks.{stored_next}
 use Rattle.sixteenths.proofs.weights.block_from.Statement.{statement}
@@ -44,7 +44,7 @@ loop-again c =
     let l = c.before.loop in
     let a = c.before.before.args in
     let room : l.i < length l.copied = omega (arith, l.invariant.1) in
-    (omega arith, length_set l.copied l.i _ ∙ l.invariant.1, stored_next l.copied (λ k. get_or a.t1 (a.from + k) 0) l.i room l.invariant.2)
+    (omega arith, length-set l.copied l.i _ ∙ l.invariant.1, stored_next l.copied (λ k. get_or a.t1 (a.from + k) 0) l.i room l.invariant.2)
 
 returns : tie.Need-returns invariant-loop decreases-loop
 returns c = λ k h. c.before.loop.invariant.2 k (omega arith)
