@@ -5,4 +5,4 @@ use Rattle.curve.proofs.table.rect_at.Goals as goal
 
 pub returns : goal.returns
 unfolding placed
-returns c = let t = c.told-sides in ?
+returns c = search rules
