@@ -7,6 +7,7 @@ use crate::checks::sides_in_range;
 use crate::zeros::zero_rect;
 use crate::{Ohms, Rect};
 
+#[tactic(auto, unfolding(crate::specs::Ohms::ohm))]
 fn ohms_of_side(side: i32) -> f32
     requires { Side side }
     ensures { result ≡ ohm side }
@@ -14,6 +15,7 @@ fn ohms_of_side(side: i32) -> f32
     side as f32 / 1024.0
 }
 
+#[tactic(auto, unfolding(crate::specs::Ohms::ohms_of))]
 pub fn ohms_of(p: Rect) -> Ohms
     requires { Held p }
     ensures { result ≡ ohms_of p }
@@ -29,6 +31,7 @@ pub fn ohms_of(p: Rect) -> Ohms
 }
 
 // The same of any rectangle: zeros where a side is out of range.
+#[tactic(auto, unfolding(crate::specs::Ohms::checked_ohms))]
 pub fn checked_ohms(p: Rect) -> Ohms
     ensures { result ≡ checked_ohms p }
 {
