@@ -7,7 +7,6 @@ use crate::checks::sides_in_range;
 use crate::zeros::zero_rect;
 use crate::{Ohms, Rect};
 
-#[tactic(auto, unfolding(crate::specs::Ohms::ohm))]
 fn ohms_of_side(side: i32) -> f32
     requires { Side side }
     ensures { result ≡ ohm side }
