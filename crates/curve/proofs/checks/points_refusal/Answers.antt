@@ -1,5 +1,5 @@
 -- `points_refusal` meets its contract: a place out of range ends the pass with its refusal, and after the last place the kept refusal is that of the order.
-use Rattle.std.proofs.Common.{sym, ◌∙◌, ◌+◌, subst, rules}
+use Rattle.std.proofs.Common.{sym, ◌+◌, subst, rules}
 use Rattle.curve.proofs.Refused.{Passed, passed_start, passed_next, passed_range, passed_end}
 use Rattle.curve.proofs.checks.points_refusal.Goals as goal
 

@@ -1,12 +1,9 @@
 -- `elevated_points` meets its contract: the first and the last place are kept, and each turn fills one place by one map.
-use Rattle.std.proofs.Common.{◌≡◌, ℕ, ◌+◌, ◌-◌, ◌≤◌, ◌<◌, Bool, ◌&&◌, List, set, sym, ap, ap₂, ◌∙◌, arith}
+use Rattle.std.proofs.Common.{◌≡◌, ℕ, ◌+◌, ◌-◌, ◌<◌, Bool, ◌&&◌, List, set, sym, ap, ap₂, ◌∙◌, arith}
 use Rattle.rational.proofs.Truth.{both_and, and_true}
 use Rattle.bernstein.specs.DeCasteljau.{all_below}
 use Rattle.bernstein.proofs.EveryMap.{all_zero, all_next}
-use Rattle.curve.specs.Limits.{max_degree}
 use Rattle.curve.specs.declared.Rect.{Rect}
-use Rattle.curve.specs.declared.affine.RectMap.{RectMap}
-use Rattle.curve.specs.Rect.{affine_rect, exact_rect}
 use Rattle.curve.specs.Curve.{point, points_of, elevated_point, elevated_exact, elevation_exact}
 use Rattle.curve.proofs.Places.{points_first, points_next}
 use Rattle.curve.proofs.Weighing.{mapped_by, part_times, part-total}

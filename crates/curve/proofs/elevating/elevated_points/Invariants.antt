@@ -1,5 +1,5 @@
 -- The places up to k are filled. The measure is what is left of them.
-use Rattle.std.proofs.Common.{◌≡◌, ◌+◌, ◌-◌, ◌≤◌, ◌<◌}
+use Rattle.std.proofs.Common.{◌≡◌, ◌+◌, ◌-◌, ◌≤◌}
 use Rattle.bernstein.specs.DeCasteljau.{all_below}
 use Rattle.curve.specs.Curve.{point, points_of, elevated_point, elevated_exact}
 use Rattle.curve.proofs.elevating.elevated_points.Given as goal
