@@ -36,30 +36,35 @@ pub fn first_of(a: Refusal, b: Refusal) -> Refusal
     if a.number != 0 { a } else { b }
 }
 
+#[tactic(auto, unfolding(crate::specs::Rect::in_range))]
 fn in_range(side: i32) -> bool
     ensures { result ≡ in_range side }
 {
     MIN_SIDE <= side && side <= MAX_SIDE
 }
 
+#[tactic(auto, unfolding(crate::specs::Rect::ends_in_range))]
 pub fn ends_in_range(i: Interval) -> bool
     ensures { result ≡ ends_in_range i }
 {
     in_range(i.low) && in_range(i.high)
 }
 
+#[tactic(auto, unfolding(crate::specs::Rect::sides_in_range))]
 pub fn sides_in_range(p: Rect) -> bool
     ensures { result ≡ sides_in_range p }
 {
     ends_in_range(p.resistance) && ends_in_range(p.reactance)
 }
 
+#[tactic(auto, unfolding(crate::specs::Rect::ends_ordered))]
 fn ends_ordered(i: Interval) -> bool
     ensures { result ≡ ends_ordered i }
 {
     i.low <= i.high
 }
 
+#[tactic(auto, unfolding(crate::specs::Rect::sides_ordered))]
 fn sides_ordered(p: Rect) -> bool
     ensures { result ≡ sides_ordered p }
 {
@@ -67,6 +72,7 @@ fn sides_ordered(p: Rect) -> bool
 }
 
 // Whether an interval's ends are in range and in order. Of ends in order one test each tells that both are in range.
+#[tactic(auto, unfolding(crate::specs::Rect::in_range, crate::specs::Rect::ends_in_range, crate::specs::Rect::ends_ordered))]
 fn is_good_interval(i: Interval) -> bool
     ensures { result ≡ (ends_in_range i && ends_ordered i) }
 {
@@ -74,6 +80,7 @@ fn is_good_interval(i: Interval) -> bool
 }
 
 // Whether a rectangle's sides are in range and in order.
+#[tactic(auto, unfolding(crate::specs::Rect::sides_in_range, crate::specs::Rect::sides_ordered))]
 pub fn is_good(p: Rect) -> bool
     ensures { result ≡ (sides_in_range p && sides_ordered p) }
 {
@@ -130,6 +137,7 @@ fn points_refusal(c: Curve) -> Refusal
 }
 
 // Refusals 1 to 3.
+#[tactic(auto, unfolding(crate::specs::Refusals::curve_refusal))]
 pub fn curve_refusal(c: Curve) -> Refusal
     ensures { result ≡ curve_refusal c }
 {
@@ -141,6 +149,7 @@ pub fn curve_refusal(c: Curve) -> Refusal
 }
 
 // Refusals 4 and 5.
+#[tactic(auto, unfolding(crate::specs::Refusals::parameter_refusal))]
 pub fn parameter_refusal(num: u32, den: u32) -> Refusal
     ensures { result ≡ parameter_refusal num den }
 {
@@ -149,6 +158,7 @@ pub fn parameter_refusal(num: u32, den: u32) -> Refusal
 }
 
 // Refusals 1 to 5.
+#[tactic(auto, unfolding(crate::specs::Calls::call_refusal))]
 pub fn call_refusal(c: Curve, num: u32, den: u32) -> Refusal
     ensures { result ≡ call_refusal c num den }
 {
@@ -156,6 +166,7 @@ pub fn call_refusal(c: Curve, num: u32, den: u32) -> Refusal
 }
 
 // Refusals 1 to 5, then 17.
+#[tactic(auto, unfolding(crate::specs::Calls::subdivision_refusal))]
 pub fn subdivision_refusal(c: Curve, num: u32, den: u32) -> Refusal
     ensures { result ≡ subdivision_refusal c num den }
 {
@@ -165,6 +176,7 @@ pub fn subdivision_refusal(c: Curve, num: u32, den: u32) -> Refusal
 }
 
 // Refusals 1 to 3, 6 at the highest degree, then 17.
+#[tactic(auto, unfolding(crate::specs::Calls::elevation_refusal, crate::specs::Refusals::highest_refusal))]
 pub fn elevation_refusal(c: Curve) -> Refusal
     ensures { result ≡ elevation_refusal c }
 {

@@ -14,6 +14,7 @@ fn ohms_of_side(side: i32) -> f32
     side as f32 / 1024.0
 }
 
+#[tactic(auto, unfolding(crate::specs::Ohms::ohms_of))]
 pub fn ohms_of(p: Rect) -> Ohms
     requires { Held p }
     ensures { result ≡ ohms_of p }
@@ -29,6 +30,7 @@ pub fn ohms_of(p: Rect) -> Ohms
 }
 
 // The same of any rectangle: zeros where a side is out of range.
+#[tactic(auto, unfolding(crate::specs::Ohms::checked_ohms))]
 pub fn checked_ohms(p: Rect) -> Ohms
     ensures { result ≡ checked_ohms p }
 {

@@ -6,18 +6,21 @@ ghost use Rattle.curve.specs.Inner.{Ready};
 
 use crate::{Curve, Interval, Rect};
 
+#[tactic(auto, unfolding(crate::specs::Rect::least))]
 fn least_of(a: i32, b: i32) -> i32
     ensures { result ≡ least a b }
 {
     if a <= b { a } else { b }
 }
 
+#[tactic(auto, unfolding(crate::specs::Rect::greatest))]
 fn greatest_of(a: i32, b: i32) -> i32
     ensures { result ≡ greatest a b }
 {
     if a <= b { b } else { a }
 }
 
+#[tactic(auto, unfolding(crate::specs::Rect::hull_interval))]
 fn hull_interval(i: Interval, j: Interval) -> Interval
     ensures { result ≡ hull_interval i j }
 {
@@ -27,6 +30,7 @@ fn hull_interval(i: Interval, j: Interval) -> Interval
     }
 }
 
+#[tactic(auto, unfolding(crate::specs::Rect::hull))]
 fn hull_rect(p: Rect, q: Rect) -> Rect
     ensures { result ≡ hull p q }
 {
@@ -36,6 +40,7 @@ fn hull_rect(p: Rect, q: Rect) -> Rect
     }
 }
 
+#[tactic(auto, unfolding(crate::specs::Curve::bounds_of, crate::specs::Curve::hull_to))]
 pub fn hull_of(c: Curve) -> Rect
     requires { Ready c }
     ensures { result ≡ bounds_of c }

@@ -201,6 +201,7 @@ pub fn evaluate(c: Curve, num: u32, den: u32) -> Evaluation
 }
 
 // The same curve with its degree raised by one, each control point rounded outward once; refusals 1 to 3, 6 and 17.
+#[tactic(auto, unfolding(crate::specs::Calls::elevated, crate::specs::Curve::elevated_of))]
 pub fn elevate(c: Curve) -> Elevation
     ensures { result ≡ elevated c }
 {
@@ -228,6 +229,7 @@ pub fn elevate(c: Curve) -> Elevation
 }
 
 // The least rectangle that holds every control point; refusals 1 to 3.
+#[tactic(auto, unfolding(crate::specs::Calls::bounded))]
 pub fn bounds(c: Curve) -> BoundingRect
     ensures { result ≡ bounded c }
 {

@@ -6,6 +6,7 @@ use crate::checks::refused_unless;
 use crate::{MAX_SUM, Refusal};
 
 // Refusal 17. The sum is one that a call would reach, so it may be any number.
+#[tactic(auto, unfolding(crate::specs::Refusals::sum_refusal))]
 pub fn sum_refusal(sum: u64) -> Refusal
     ensures { result ≡ sum_refusal sum }
 {

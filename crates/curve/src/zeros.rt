@@ -14,6 +14,7 @@ pub fn zero_rect() -> Rect
     }
 }
 
+#[tactic(auto, unfolding(crate::specs::Curve::points_of, crate::specs::Curve::tabulate))]
 pub fn zero_curve() -> Curve
     ensures { result ≡ zero_curve }
 {
