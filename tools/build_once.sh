@@ -63,11 +63,13 @@ check_needs() {
     "$all"
 }
 
-# up_to_date NAME FILE SOURCE..: the file is there, and no source is newer than the start of its last build that went well.
+# up_to_date NAME FILE SOURCE..: the file is there, and no source is newer than the start of its last build that went well. A crate's
+# out/ is no source, and rt makes it in the crate's own directory.
 up_to_date() (
     built=target/$1.built file=$2
     shift 2
-    cd "$root" && [ -e "$file" ] && [ -e "$built" ] && newer=$(find "$@" -newer "$built" -print -quit 2> /dev/null) && [ -z "$newer" ]
+    cd "$root" && [ -e "$file" ] && [ -e "$built" ] &&
+        newer=$(find "$@" -regex 'crates/[^/]*/out' -prune -o ! -regex 'crates/[^/]*' -newer "$built" -print -quit 2> /dev/null) && [ -z "$newer" ]
 )
 
 # run_group COMMAND..: runs a command in a process group of its own, and waits for it.
@@ -114,7 +116,7 @@ interrupted() {
     kill -s "$1" "$$"
 }
 
-# Another run may have built the file while this one waited for the lock. The lock is on crates.txt, which rt ci leaves alone.
+# Another run may have built the file while this one waited for the lock. The lock is on crates.txt, which rt does not lock.
 build_under_lock() {
     local name=$1 file=$2 sources=$3 building=$root/target/$1.building built=$root/target/$1.built log=$root/target/$1.log
     shift 3

@@ -4,13 +4,13 @@ libraries=target/staticlib
 merged=target/library.merged
 library_sources='crates crates.txt'
 
-# Puts the one object of each archive into a new one, with no time or owner in it, and keeps it where it differs: one that comes out
-# the same is left as it is, so that nothing that links it is built again.
+# Puts the one object of each crate's archive into a new one, with no time or owner in it, and keeps it where it differs: one that comes
+# out the same is left as it is, so that nothing that links it is built again.
 merge() {
     local name
-    rm -rf "$merged" && mkdir "$merged" || return
+    rm -rf "$merged" && mkdir -p "$merged" "$libraries" || return
     for name in "$@"; do
-        ar x "$libraries/lib$name.a" --output "$merged" || return
+        ar x "crates/$name/out/lib$name.a" --output "$merged" || return
     done
     ar rcsD "$merged/libjusqani.a" "$merged"/*.o || return
     cmp -s "$merged/libjusqani.a" "$libraries/libjusqani.a" || mv "$merged/libjusqani.a" "$libraries/libjusqani.a" || return
@@ -18,7 +18,7 @@ merge() {
 }
 
 make_library() {
-    rt staticlib foreign && rt staticlib panel && merge foreign panel
+    (cd crates/foreign && rt lib) && (cd crates/panel && rt lib) && merge foreign panel
 }
 
 # build_library NEED..: with what the script needs besides, which is looked for first.
