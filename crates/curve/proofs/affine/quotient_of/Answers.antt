@@ -88,6 +88,7 @@ overflow_add-result c =
     let most = small a.distance a.w a.up p.distance_bound p.weighed in
     rw (signed (near a.distance a.w p.distance_bound p.weighed) (omega arith), signed_bit a.up) (sum_fits a.distance a.w a.up p.distance_bound p.weighed)
 
+-- it holds of any test, so that a wrong one is refused where the result is told
 pub overflow_sub-result : goal.overflow_sub-result
 overflow_sub-result c =
     let a = c.args in
@@ -95,9 +96,8 @@ overflow_sub-result c =
     let weighed = c.requires.weighed in
     let most = small a.distance a.w a.up far weighed in
     let bit = bit_small a.up in
-    let test = tested a.distance a.w a.up far weighed in
-    rw (left_back a.distance a.w a.up far weighed, back (left-32 a.distance a.w a.up far weighed), added a.distance a.w a.up far weighed, signed_bit a.up, signed_bit test)
-    (difference_fits (near a.distance a.w far weighed + bool_byte a.up) test (omega arith))
+    rw (added a.distance a.w a.up far weighed, signed_bit)
+    (difference_fits (near a.distance a.w far weighed + bool_byte a.up) _ (omega arith))
 
 pub returns : goal.returns
 returns c =
