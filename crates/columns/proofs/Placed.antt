@@ -3,11 +3,11 @@
 use mathlib.Core.Path.{◌≡◌, sym, ap, ◌∙◌}
 use mathlib.Core.List.{List, [], ◌∷◌, ◌++◌, append_assoc, append-nil}
 use Prim.Native.Nat.{ℕ, ◌+◌, ◌-◌, ◌≤◌, ◌<◌}
-use native.Mathlib.Nat.{add-zero, zero-add, le_of_eq}
+use native.Mathlib.Nat.{add-zero, zero-add}
 use native.Mathlib.Numerals.{add-one}
 use native.Mathlib.Omega.{arith}
-use lib.ListN.{length, get_or, take, drop, set, length-append, length-drop, take-append-drop, drop_of_length-le, get_or-append}
-use lib.Seq.{length-take-le, take_all, take-length, take_at, drop_at, drop-drop, get_or-take, get_or-drop, get_or-append-add, set_split, append_snoc}
+use lib.ListN.{length, get_or, take, drop, set, length-append, length-drop, take-append-drop, get_or-append}
+use lib.Seq.{length-take-le, take_at, drop_at, drop-drop, get_or-take, get_or-drop, get_or-append-add, set_split, append_snoc}
 use Rattle.columns.specs.Line.{placed}
 
 pub placed-none : (bytes : List ℕ) (at : ℕ) → placed bytes at [] ≡ bytes
@@ -24,16 +24,10 @@ unfolding placed
 placed-from bytes at text h =
     rw (append_assoc) (drop_at (take at bytes) (text ++ drop (at + length text) bytes) at (length-take-le at bytes h))
 
--- a text that is copied into the part from the offset on
-pub placed_copy : (bytes : List ℕ) (at : ℕ) (text : List ℕ)
-    → take at bytes ++ (take (length text) text ++ drop (length text) (take (length bytes - at) (drop at bytes)) ++ drop (length bytes - at) (drop at bytes))
-    ≡ placed bytes at text
+-- a text that takes the place of as many bytes
+pub placed_copy : (bytes : List ℕ) (at k : ℕ) (text : List ℕ) → k ≡ length text → take at bytes ++ (text ++ drop k (drop at bytes)) ≡ placed bytes at text
 unfolding placed
-placed_copy bytes at text =
-    let size = le_of_eq (length-drop at bytes) in
-    let whole : take (length bytes - at) (drop at bytes) ≡ drop at bytes = take_all (length bytes - at) (drop at bytes) size in
-    let none : drop (length bytes - at) (drop at bytes) ≡ [] = drop_of_length-le (drop at bytes) size in
-    rw (whole, none, take-length text, append-nil, drop-drop (length text) at bytes, append_assoc)
+placed_copy bytes at k text e = rw (e, drop-drop (length text) at bytes, append_assoc)
 
 -- a single byte
 pub placed_byte : (bytes : List ℕ) (at b : ℕ) → at < length bytes → set bytes at b ≡ placed bytes at (b ∷ [])

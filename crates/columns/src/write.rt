@@ -62,5 +62,5 @@ fn write_column(out: &mut [u8], at: usize, value: i64)
     ensures { out.new ≡ placed out.old at (column value) }
 {
     let b = column_of(value);
-    bytes::copy(&b, &mut out[at..]);
+    out[at..at + 10].copy_from_slice(&b);
 }
