@@ -4,7 +4,7 @@ use mathlib.Core.Path.{◌≡◌, refl, sym, ap, ap₂, ◌∙◌}
 use mathlib.Core.Bool.{Bool, true, false}
 use borrow.Author.Tests.{eqb-false}
 use lib.Dec.{T}
-use lib.IntN.{ℤ, pos, ◌+ℤ◌, +ℤ_idr}
+use lib.IntN.{ℤ, pos, +ℤ_idr}
 use lib.Ieee.{Float, fin}
 use Rattle.rational.specs.Rounding.{down, up, quotient, floor, ceiling}
 use Rattle.rational.specs.Fraction.{◌*ᶠ◌, whole}

@@ -4,7 +4,7 @@ use mathlib.Core.Path.{◌≡◌, sym, ap, ap₂, ◌∙◌, subst}
 use lib.IntN.{ℤ, ◌+ℤ◌, ◌-ℤ◌, -ℤ-+ℤ_cancel}
 use Rattle.rational.specs.Rounding.{Rounding, down, up}
 use Rattle.rational.specs.Fraction.{Frac, whole, ◌≤ᶠ◌, ◌+ᶠ◌}
-use Rattle.rational.proofs.Rational.{ℚ, rat, embed, ◌+ℚ◌, rat_add, rat_whole, embed_add}
+use Rattle.rational.proofs.Rational.{rat, embed, ◌+ℚ◌, rat_add, rat_whole, embed_add}
 use Rattle.rational.proofs.RationalOrder.{◌≤ℚ◌, ≤ℚ-of, ≤ᶠ-of, ≤ℚ-trans, +ℚ-mono, +ℚ-mono_left, +ℚ-order_cancel}
 use Rattle.curve.specs.Rect.{Bounded}
 use Rattle.bridge.specs.Bridge.{moved}

@@ -1,0 +1,94 @@
+-- `enclose_load` meets its contract: a refusal of its numbers or of its sides, or the rectangle.
+use Rattle.std.proofs.Common.{◌≡◌, sym, ap, ap₂, ◌∙◌, subst, T, w32, to_z, of_z}
+use lib.Ieee.{Float}
+use Rattle.rational.specs.Rounding.{down, up}
+use Rattle.curve.specs.declared.Interval.{Interval}
+use Rattle.curve.specs.declared.Rect.{Rect}
+use Rattle.curve.specs.declared.Refusal.{Refusal}
+use Rattle.curve.specs.Inner.{Side, Sides}
+use Rattle.curve.proofs.Sides.{side_back, side_passed}
+use Rattle.curve.proofs.Refused.{number_passed}
+use Rattle.bridge.specs.Value.{step_at, steps_about, is_load}
+use Rattle.bridge.specs.Bridge.{widened, spread_rect, number_refusal, side_refusal}
+use Rattle.bridge.proofs.Steps.{load_side, spread_load}
+use Rattle.bridge.proofs.Answers.{gives, numbers_refused, sides-refused, sides-accepted, numbers_passed, loads_passed}
+use Rattle.bridge.proofs.enclose_load.Goals as goal
+
+pub returns-then-refusal-ne0 : goal.returns-then-refusal-ne0
+returns-then-refusal-ne0 c =
+    let e = c.number_refusal-refusal.ensures in
+    rw e (numbers_refused c.args.resistance c.args.reactance c.args.spread (λ h. c.if-refusal-ne0.true (number_passed (sym e) h)))
+
+-- past the first test every number is in range
+in-range : (r x spread : Float) {found : Refusal} → found ≡ number_refusal r x spread → found.number ≡ 0 →
+    T (is_load r) × T (is_load x) × T (is_load spread)
+in-range r x spread e h =
+    let (load, few) = numbers_passed r x spread (number_passed e h) in
+    let (first, second) = loads_passed r x load in
+    (first, second, spread_load spread few)
+
+pub steps_about-by-requires : goal.steps_about-by-requires
+steps_about-by-requires c = (in-range _ _ _ c.number_refusal-refusal.ensures c.if-refusal-ne0.false).2
+
+pub steps_about-requires : goal.steps_about-requires
+steps_about-requires c = (in-range _ _ _ c.number_refusal-refusal.ensures c.if-refusal-ne0.false).0
+
+pub steps_about-requires-2 : goal.steps_about-requires-2
+steps_about-requires-2 c = (in-range _ _ _ c.number_refusal-refusal.ensures c.if-refusal-ne0.false).1
+
+-- the steps about a number in range are sides
+about-sides : (x : Float) {i : Interval} → T (is_load x) → i ≡ steps_about x → Sides i
+unfolding steps_about
+about-sides x t e = subst Sides (sym e) (record { at = elim [ down ↦ load_side down x t | up ↦ load_side up x t ] })
+
+-- so is the spread rounded up, as it is passed on
+by-side : (x : Float) {i : Interval} → T (is_load x) → i ≡ steps_about x → Side (to_z w32 (of_z w32 i.high))
+by-side x t e = let s = about-sides x t e in side_passed (s.at up)
+
+pub widened-requires-clause-sides : goal.widened-requires-clause-sides
+widened-requires-clause-sides c =
+    about-sides c.args.resistance (in-range _ _ _ c.number_refusal-refusal.ensures c.if-refusal-ne0.false).0 c.steps_about.ensures
+
+pub widened-requires-clause-side : goal.widened-requires-clause-side
+widened-requires-clause-side c =
+    by-side c.args.spread (in-range _ _ _ c.number_refusal-refusal.ensures c.if-refusal-ne0.false).2 c.steps_about-by.ensures
+
+pub widened-requires-2-clause-sides : goal.widened-requires-2-clause-sides
+widened-requires-2-clause-sides c =
+    about-sides c.args.reactance (in-range _ _ _ c.number_refusal-refusal.ensures c.if-refusal-ne0.false).1 c.steps_about-2.ensures
+
+pub widened-requires-2-clause-side : goal.widened-requires-2-clause-side
+widened-requires-2-clause-side c =
+    by-side c.args.spread (in-range _ _ _ c.number_refusal-refusal.ensures c.if-refusal-ne0.false).2 c.steps_about-by.ensures
+
+-- the spread rounded up, as it is passed on
+by-is : (x : Float) {i : Interval} → T (is_load x) → i ≡ steps_about x → to_z w32 (of_z w32 i.high) ≡ step_at up x
+unfolding steps_about
+by-is x t e = ap (λ (i : Interval). to_z w32 (of_z w32 i.high)) e ∙ side_back (load_side up x t)
+
+-- both coordinates, widened
+rect-is : (r x spread : Float) {i j s a b : Interval} → T (is_load spread) → s ≡ steps_about spread → i ≡ steps_about r → j ≡ steps_about x →
+    a ≡ widened i (to_z w32 (of_z w32 s.high)) → b ≡ widened j (to_z w32 (of_z w32 s.high)) → ◌≡◌ {A = Rect} (record { resistance = a; reactance = b }) (spread_rect r x spread)
+unfolding spread_rect
+rect-is r x spread t e f g h k =
+    ap₂ (λ (i j : Interval). record { resistance = i; reactance = j })
+    (h ∙ ap₂ widened f (by-is spread t e))
+    (k ∙ ap₂ widened g (by-is spread t e))
+
+pub returns-then-outside-ne0 : goal.returns-then-outside-ne0
+returns-then-outside-ne0 c =
+    let a = c.args in
+    let passed = number_passed c.number_refusal-refusal.ensures c.if-refusal-ne0.false in
+    let is = rect-is a.resistance a.reactance a.spread (in-range _ _ _ c.number_refusal-refusal.ensures c.if-refusal-ne0.false).2
+    c.steps_about-by.ensures c.steps_about.ensures c.steps_about-2.ensures c.widened.ensures c.widened-2.ensures in
+    let s = c.side_refusal-outside.ensures ∙ ap side_refusal is in
+    rw s (sides-refused a.resistance a.reactance a.spread passed (λ h. c.if-outside-ne0.true (number_passed (sym s) h)))
+
+pub returns : goal.returns
+returns c =
+    let a = c.args in
+    let passed = number_passed c.number_refusal-refusal.ensures c.if-refusal-ne0.false in
+    let is = rect-is a.resistance a.reactance a.spread (in-range _ _ _ c.number_refusal-refusal.ensures c.if-refusal-ne0.false).2
+    c.steps_about-by.ensures c.steps_about.ensures c.steps_about-2.ensures c.widened.ensures c.widened-2.ensures in
+    let s = c.side_refusal-outside.ensures ∙ ap side_refusal is in
+    ap₂ gives s is ∙ sides-accepted a.resistance a.reactance a.spread passed (number_passed s c.if-outside-ne0.false)
