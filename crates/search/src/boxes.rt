@@ -4,12 +4,14 @@ ghost use Rattle.search.specs.Box.{within, disjoint, in_box, apart_from, are_lim
 
 use curve::{Interval, Rect};
 
+#[tactic(auto, unfolding(crate::specs::Box::within))]
 fn interval_within(span: Interval, limits: Interval) -> bool
     ensures { result ≡ within span limits }
 {
     limits.low <= span.low && span.high < limits.high
 }
 
+#[tactic(auto, unfolding(crate::specs::Box::disjoint))]
 fn intervals_disjoint(span: Interval, limits: Interval) -> bool
     ensures { result ≡ disjoint span limits }
 {
@@ -17,6 +19,7 @@ fn intervals_disjoint(span: Interval, limits: Interval) -> bool
 }
 
 // Whether the span lies in the box.
+#[tactic(auto, unfolding(crate::specs::Box::in_box))]
 pub fn in_box(span: Rect, limits: Rect) -> bool
     ensures { result ≡ in_box span limits }
 {
@@ -25,6 +28,7 @@ pub fn in_box(span: Rect, limits: Rect) -> bool
 }
 
 // Whether the span and the box have no common point.
+#[tactic(auto, unfolding(crate::specs::Box::apart_from))]
 pub fn apart_from(span: Rect, limits: Rect) -> bool
     ensures { result ≡ apart_from span limits }
 {
@@ -32,6 +36,7 @@ pub fn apart_from(span: Rect, limits: Rect) -> bool
         || intervals_disjoint(span.reactance, limits.reactance)
 }
 
+#[tactic(auto, unfolding(crate::specs::Box::are_limits))]
 fn are_limits(limits: Interval) -> bool
     ensures { result ≡ are_limits limits }
 {
@@ -39,6 +44,7 @@ fn are_limits(limits: Interval) -> bool
 }
 
 // Whether the box's sides are in range, and each low one is below its high one.
+#[tactic(auto, unfolding(crate::specs::Box::is_box))]
 pub fn is_box(limits: Rect) -> bool
     ensures { result ≡ is_box limits }
 {

@@ -53,6 +53,7 @@ fn deepest_refusal(sum: u16, degree: u32, depth: u32) -> Refusal
 }
 
 // Refusals 8, 9 and 17.
+#[tactic(auto, unfolding(crate::specs::Search::effort_refusal))]
 pub fn effort_refusal(c: Curve, depth: u32, budget: u32) -> Refusal
     ensures { result ≡ effort_refusal c depth budget }
 {
@@ -65,6 +66,7 @@ pub fn effort_refusal(c: Curve, depth: u32, budget: u32) -> Refusal
 }
 
 // Refusals 7 to 9 and 17.
+#[tactic(auto, unfolding(crate::specs::Search::box_refusal))]
 fn box_refusal(c: Curve, limits: Rect, depth: u32, budget: u32) -> Refusal
     ensures { result ≡ box_refusal c limits depth budget }
 {
@@ -75,6 +77,7 @@ fn box_refusal(c: Curve, limits: Rect, depth: u32, budget: u32) -> Refusal
 }
 
 // Refusals 1 to 3, then 7 to 9 and 17.
+#[tactic(auto, unfolding(crate::specs::Search::search_refusal))]
 fn search_refusal(c: Curve, limits: Rect, depth: u32, budget: u32) -> Refusal
     ensures { result ≡ search_refusal c limits depth budget }
 {

@@ -17,6 +17,7 @@ pub enum Visit {
     Across,
 }
 
+#[tactic(auto, unfolding(crate::specs::Walk::visit_at))]
 pub fn visit_at(piece: Curve, limits: Rect, budget: u32, before: Verdict) -> Visit
     ensures { result ≡ visit_at limits budget piece before }
 {

@@ -75,6 +75,7 @@ fn is_length(count: usize) -> bool
 }
 
 // Refusal 16.
+#[tactic(auto, unfolding(crate::specs::Settings::list_refusal))]
 fn list_refusal(count: usize) -> Refusal
     ensures { result ≡ list_refusal count }
 {
@@ -91,6 +92,7 @@ pub fn begun(c: Curve, count: usize) -> Progress
 }
 
 // After the check of a record's box, refusal 7; after the last one, refusals 8, 9 and 17 or the first walk.
+#[tactic(auto, unfolding(crate::specs::Inner::checked))]
 fn checked(
     c: Curve,
     span: Rect,
@@ -119,6 +121,7 @@ fn checked(
 }
 
 // Whether a record's walk ends Inside. The first look at the whole curve, whose span is known, often tells.
+#[tactic(auto, unfolding(crate::specs::Settings::fits))]
 fn fits(c: Curve, span: Rect, depth: u32, budget: u32, s: Setting) -> bool
     requires { Ready c span depth budget s }
     ensures { result ≡ fits c depth budget s }
@@ -134,6 +137,7 @@ fn fits(c: Curve, span: Rect, depth: u32, budget: u32, s: Setting) -> bool
 }
 
 // After the walk of a record: it is chosen, or the next one is due, or none fits.
+#[tactic(auto, unfolding(crate::specs::Inner::tried))]
 fn tried(
     c: Curve,
     span: Rect,
@@ -166,6 +170,7 @@ fn tried(
 }
 
 // After the record that was due.
+#[tactic(auto, unfolding(crate::specs::Inner::next))]
 pub fn next(
     c: Curve,
     count: usize,

@@ -1,0 +1,5 @@
+-- The walk's measure is the number of depths below the piece.
+use Rattle.search.proofs.+walk.Given as goal
+
+abbrev pub decreases-walk : goal.decreases-walk
+decreases-walk l = l.below
