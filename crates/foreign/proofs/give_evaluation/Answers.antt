@@ -25,7 +25,7 @@ returns-then-refusal-ne0 c =
     let some = c.if-refusal-ne0.true in
     let r = c.with_room-refusal.result in
     gives_both_number e.refusal (sides e.load) a.load.now (ohm_numbers e.ohms) a.ohms.now refl refl c.with_room-first.ensures c.with_room-refusal.ensures
-    c.answer_of.ensures (all_kept r _ _ some) (all_kept r _ _ some) (all_kept r _ _ some)
+    c.answer_of-then-refusal-ne0.ensures (all_kept r _ _ some) (all_kept r _ _ some) (all_kept r _ _ some)
 
 pub put_rect-requires : goal.put_rect-requires
 put_rect-requires c =
