@@ -2,3 +2,5 @@
 pub mod Answer
 pub mod Lent
 pub mod Numbers
+pub mod Points
+pub mod Stored

@@ -10,7 +10,7 @@ use lib.IntN.{ℤ, pos}
 use lib.ListN.{length, get_or}
 use lib.Signed.{mag}
 use mir.Syntax.{w32}
-use mir.Val.{bool_byte, to_z, of_z, hbits}
+use mir.Val.{to_z, of_z, hbits}
 use mir.ValLaws.{to_z-of_z}
 use Rattle.curve.specs.declared.Curve.{Curve}
 use Rattle.curve.specs.Limits.{max_degree}
@@ -19,7 +19,7 @@ use Rattle.rational.proofs.Machine.{told}
 use Rattle.card_text.specs.declared.CardRead.{CardRead}
 use Rattle.card_text.specs.Reading.{number_at, decoded, card_refusal, read_card}
 use Rattle.card_text.proofs.UpTo.{degree-at-most}
-use Rattle.interface.specs.Numbers.{given_at, flag_number}
+use Rattle.interface.specs.Numbers.{given_at}
 
 -- a number that the list has, as it comes out of memory
 had : (zs : List ℤ) (k : ℕ) → k < length zs → get_or zs k (pos 0) ≡ given_at zs k
@@ -45,8 +45,3 @@ card_few bytes = go (eqb (card_refusal bytes).number 0)
 -- a small number as an i32
 pub as_signed : (n : ℕ) → n < 2 ^ 31 → to_z w32 n ≡ pos n
 as_signed n h = to_z-of_z w32 (pos n) (record { sfits = omega arith })
-
--- a flag as a u32
-pub flag-number : (exact : Bool) → bool_byte exact ≡ flag_number exact
-flag-number true = refl
-flag-number false = refl

@@ -11,6 +11,7 @@ const WORD: u64 = 4294967296;
 const MAX_PLACE: usize = 4294967295;
 
 // A place in 32 bits.
+#[tactic(auto, unfolding(interface::specs::Answer::place_of))]
 fn place_of(place: usize) -> u64
     ensures { result ≡ place_of place }
 {
@@ -28,6 +29,7 @@ pub fn answer_of(refusal: Refusal) -> u64
 }
 
 // The refusal, or 12 where there is none and a slice of this size is shorter than what is needed.
+#[tactic(auto, unfolding(interface::specs::Answer::shorter))]
 pub fn with_room(refusal: Refusal, needed: usize, size: usize) -> Refusal
     ensures { result ≡ (refusal or_else shorter needed size) }
 {

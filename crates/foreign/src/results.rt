@@ -81,6 +81,7 @@ pub fn put_rect(out: &mut [i32], refusal: Refusal, p: Rect)
 }
 
 // Gives a curve, unless the call is refused.
+#[tactic(auto, unfolding(curve::specs::Refusals::unless_refused))]
 pub fn put_curve(out: &mut [i32], refusal: Refusal, c: Curve)
     requires degree_le_max_degree { c.degree ≤ max_degree }
     requires room { Room refusal (length (curve_numbers c)) out.old }
@@ -107,6 +108,7 @@ pub fn put_ohms(out: &mut [f32], refusal: Refusal, o: Ohms)
 }
 
 // Gives a number, unless the call is refused.
+#[tactic(auto, unfolding(curve::specs::Refusals::unless_refused))]
 pub fn put_number(out: &mut u32, refusal: Refusal, value: u32)
     ensures { out.new ≡ unless_refused refusal value out.old }
 {
@@ -136,6 +138,7 @@ fn store_numbers(out: &mut [u32], numbers: &[u32])
 }
 
 // Gives numbers, unless the call is refused.
+#[tactic(auto, unfolding(curve::specs::Refusals::unless_refused))]
 fn put_numbers(out: &mut [u32], refusal: Refusal, numbers: &[u32])
     requires { Room refusal (length numbers.now) out.old }
     ensures { out.new ≡ after refusal numbers.now out.old }

@@ -32,7 +32,7 @@ use Rattle.card_text.proofs.UpTo.{number_above, number_below, number_back, degre
 use Rattle.search.specs.Box.{are_limits, is_box}
 use Rattle.bridge.specs.Value.{finite, is_from, is_load}
 use Rattle.bridge.specs.Bridge.{spread_rect, load_refusal, number_refusal, side_refusal, spread_refusal, answered, enclosed}
-use Rattle.interface.specs.Answer.{word, max_place, place_of, answer_of, after}
+use Rattle.interface.specs.Answer.{word, max_place, place_of, answer_of}
 use Rattle.interface.specs.Numbers.{missing, given_at, rect_at, sum_from, curve_from, ohms_at, spread_from, measurement_from, curve_numbers}
 use Rattle.interface.specs.Promises.{Unpacked, ZeroAnswer, CurveLength, HandedOn, LargestSum, NoDegree, WrongLength, ResultNumbers, Kept}
 use Rattle.interface.proofs.Lent.{all_kept, value_stored}
