@@ -101,21 +101,21 @@ enum jusqani_refusal { JUSQANI_REFUSALS(JUSQANI_REFUSED) };
 
 /*
  * The most bytes of stack that each call took on x86-64, X(call, bytes) for each: from the caller's frame down, with
- * memcpy's, the walks of search and choose_setting at their greatest depth. tests/client/stack.c measures them and
+ * memcpy's or memset's, the walks of search and choose_setting at their greatest depth. tests/client/stack.c measures them and
  * fails where one takes more. Other processors differ.
  */
 #define JUSQANI_STACK(X) \
-    X(panel, 784) \
-    X(evaluate, 425) \
-    X(evaluate_sixteenths, 488) \
-    X(subdivide, 1320) \
-    X(elevate, 456) \
-    X(bounds, 424) \
-    X(search, 11688) \
-    X(choose_setting, 8168) \
-    X(enclose, 40) \
-    X(read_card, 800) \
-    X(write_card, 248)
+    X(panel, 672) \
+    X(evaluate, 427) \
+    X(evaluate_sixteenths, 370) \
+    X(subdivide, 1336) \
+    X(elevate, 568) \
+    X(bounds, 440) \
+    X(search, 11704) \
+    X(choose_setting, 8184) \
+    X(enclose, 56) \
+    X(read_card, 672) \
+    X(write_card, 520)
 
 /* The highest degree of a curve, the steps in an ohm, and the most records of a list of settings. */
 #define JUSQANI_MAX_DEGREE 8

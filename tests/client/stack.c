@@ -6,7 +6,7 @@
  * most bytes that each call took, and fails if one took more than the header says.
  *
  * A number counts from the caller's frame down: the arguments that are passed on the stack with their alignment, the
- * return address, the frames of the library, and those of memcpy. The caller's own frame is not counted.
+ * return address, the frames of the library, and those of memcpy or memset. The caller's own frame is not counted.
  * usage: stack CARD... */
 #define _XOPEN_SOURCE 600
 #include <inttypes.h>
