@@ -101,8 +101,8 @@ enum jusqani_refusal { JUSQANI_REFUSALS(JUSQANI_REFUSED) };
 
 /*
  * The most bytes of stack that each call took on x86-64, X(call, bytes) for each: from the caller's frame down, with
- * memcpy's or memset's, the walks of search and choose_setting at their greatest depth. tests/client/stack.c measures them and
- * fails where one takes more. Other processors differ.
+ * those of memcpy and memset, the walks of search and choose_setting at their greatest depth. tests/client/stack.c
+ * measures them and fails where one takes more. Other processors differ.
  */
 #define JUSQANI_STACK(X) \
     X(panel, 672) \
