@@ -3,12 +3,16 @@
 #![tactic(auto)]
 
 use card_report::{MOST_SHOWN, report};
-use libc::{STDIN_FILENO, STDOUT_FILENO};
+use std::io;
+use std::io::{Read, Write};
 
-fn main() {
-    let mut input = io::buffer();
-    let read = io::read_full(STDIN_FILENO, &mut input);
+// The most bytes that are read.
+const MOST_READ: u64 = 4096;
+
+fn main(rt: HostRuntime) -> io::Result<()> {
+    let mut input = Vec::new(rt.alloc());
+    rt.stdin().take(MOST_READ).read_to_end(&mut input)?;
     let mut shown = [0u8; MOST_SHOWN];
-    let n = report(&input[..read], &mut shown);
-    io::write_all(STDOUT_FILENO, &shown[..n]);
+    let n = report(&input, &mut shown);
+    rt.stdout().write_all(&shown[..n])
 }

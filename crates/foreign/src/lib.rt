@@ -170,7 +170,7 @@ pub extern "C" fn jusqani_choose_setting_v2(
     budget: u32,
     choice: &mut [u32],
 ) -> u64
-    ensures { (GivesChoice (chosen (curve_from curve.now) settings.now depth budget) choice.old result choice.new) × (settings.now ≡ settings.now) }
+    ensures { (GivesChoice (chosen (curve_from curve.now) settings.now depth budget) choice.old result choice.new) × (settings.exit.now ≡ settings.entry.now) }
 {
     let given = curve_from(curve);
     let answer = settings::choose_setting(given, settings, depth, budget);

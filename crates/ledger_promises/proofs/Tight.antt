@@ -8,7 +8,7 @@ use native.Mathlib.Nat.{mul-zero}
 use native.Mathlib.Omega.{arith}
 use lib.IntN.{ℤ, pos, ◌+ℤ◌, ◌*ℤ◌}
 use Rattle.rational.specs.Rounding.{Rounding, down, up, divisible}
-use Rattle.rational.proofs.Rational.{ℚ, embed, ◌+ℚ◌, ◌*ℚ◌, +ℚ-comm}
+use Rattle.rational.proofs.Rational.{ℚ, embed, ◌*ℚ◌, +ℚ-comm}
 use Rattle.rational.proofs.RationalOrder.{◌≤ℚ◌, ≤ℚ-trans, ≤ℚ-antisymm, +ℚ-mono_left, +ℚ-mono_right, +ℚ-order_cancel, *ℚ-mono_left}
 use Rattle.rational.proofs.Division.{ratio, ratio_nonneg, ratio_embed, ratio_affine, ratio_order_cancel}
 use Rattle.rational.proofs.Divisible.{multiple_divisible}

@@ -41,7 +41,7 @@ pub struct ChoiceAnswer {
 // The first record of the list whose walk ends Inside, each walk with this depth and the whole budget; refusals 16, 1 to 3, 7 to 9 and 17.
 // It copies the record that is due out of the list; all else is done by `next`, by value.
 pub fn choose_setting(c: Curve, settings: &[Setting], depth: u32, budget: u32) -> ChoiceAnswer
-    ensures { (result ≡ chosen c settings.now depth budget) × (settings.now ≡ settings.now) }
+    ensures { (result ≡ chosen c settings.now depth budget) × (settings.exit.now ≡ settings.entry.now) }
 {
     let count = settings.len();
     let mut progress = begun(c, count);

@@ -2,7 +2,7 @@
 -- Assumes nothing.
 use mathlib.Core.Path.{◌≡◌, refl, sym, subst}
 use mathlib.Core.Bool.{Bool, true, cond}
-use Prim.Native.Nat.{ℕ, zero, suc, ◌-◌, ◌/◌, ◌%◌, ◌<◌}
+use Prim.Native.Nat.{ℕ, zero, suc, ◌-◌, ◌/◌, ◌%◌}
 use lib.Dec.{T, leb, leb→le, eqb, eqb→eq}
 use Rattle.bernstein.specs.DeCasteljau.{all_below}
 use Rattle.bernstein.proofs.EveryMap.{all_at}

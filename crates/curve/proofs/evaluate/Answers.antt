@@ -1,5 +1,5 @@
 -- `evaluate` meets its contract: a refusal with zeros, or the load and the flag off the table.
-use mathlib.Core.Path.{◌≡◌, sym, ap₂, ◌∙◌, subst}
+use mathlib.Core.Path.{sym, ap₂, ◌∙◌, subst}
 use mathlib.Core.Bool.{Bool}
 use Rattle.curve.specs.declared.Evaluation.{Evaluation}
 use Rattle.curve.specs.declared.Rect.{Rect}

@@ -3,7 +3,7 @@ use mathlib.Core.Path.{ap₂, ◌∙◌}
 use mathlib.Core.Bool.{◌&&◌}
 use native.Mathlib.Omega.{arith}
 use Rattle.rational.specs.Rounding.{down, up}
-use Rattle.bernstein.specs.Affine.{affine, affine_exact}
+use Rattle.bernstein.specs.Affine.{affine_exact}
 use Rattle.curve.specs.Rect.{affine_interval, exact_interval}
 use Rattle.rational.proofs.Machine.{told}
 use Rattle.curve.proofs.Sides.{side_back, side_passed}

@@ -5,9 +5,9 @@ use native.Mathlib.Omega.{arith}
 use mathlib.Core.Bool.{Bool}
 use lib.IntN.{ℤ, pos, ◌+ℤ◌, ◌-ℤ◌}
 use mir.Syntax.{w32}
-use mir.Val.{SFits, to_z, of_z}
-use Rattle.rational.specs.Rounding.{rounding_of, quotient, divisible}
-use Rattle.bernstein.specs.Affine.{affine, affine_exact}
+use mir.Val.{to_z, of_z}
+use Rattle.rational.specs.Rounding.{rounding_of, quotient}
+use Rattle.bernstein.specs.Affine.{affine}
 use Rattle.curve.specs.declared.affine.Weights.{Weights}
 use Rattle.curve.specs.Inner.{Side, Weighed}
 use Rattle.rational.proofs.Machine.{back, signed}
@@ -86,6 +86,6 @@ returns c s total =
     let passed = cast a.a a.b a.w a.up p.side p.side_2 p.weighed in
     let found = rw (same, passed) at q.ensures.0 in (
       rw (summed a.a a.b a.w a.up p.side p.side_2 p.weighed q.result.steps (back (record { sfits = omega arith })) found s total)
-      (side_back (landed a.a a.b a.w a.up p.side p.side_2 p.weighed s total)),
+          (side_back (landed a.a a.b a.w a.up p.side p.side_2 p.weighed s total)),
       (rw (same, passed) at q.ensures.1) ∙ left-none a.w p.weighed known s total,
     )

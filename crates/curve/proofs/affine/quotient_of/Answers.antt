@@ -111,6 +111,6 @@ returns c =
     let same = left_back a.distance a.w a.up far weighed in
     let step = known a.distance a.w a.up far weighed in (
       rw (same, back left32, added a.distance a.w a.up far weighed, signed_bit a.up, signed_bit test)
-      (back (difference_fits (near a.distance a.w far weighed + bool_byte a.up) test (omega arith)) ∙ step.quotients a.up),
+          (back (difference_fits (near a.distance a.w far weighed + bool_byte a.up) test (omega arith)) ∙ step.quotients a.up),
       rw same (bits_zero (left_of a.distance a.w a.up far weighed) left32 ∙ step.exact),
     )

@@ -1,12 +1,10 @@
 -- `points_of` meets its contract: each turn fills the next place.
-use mathlib.Core.Path.{◌≡◌, ap, ap₂, ◌∙◌}
+use mathlib.Core.Path.{ap₂, ◌∙◌}
 use mathlib.Core.List.{List}
-use Prim.Native.Nat.{ℕ, ◌+◌, ◌≤◌}
+use Prim.Native.Nat.{◌+◌}
 use native.Mathlib.Omega.{arith}
 use lib.ListN.{set}
 use Rattle.curve.specs.declared.Rect.{Rect}
-use Rattle.curve.specs.Limits.{max_degree}
-use Rattle.curve.specs.Curve.{points_of}
 use Rattle.curve.specs.Inner.{placed}
 use Rattle.curve.proofs.Places.{points_first, points_next}
 use Rattle.curve.proofs.table.points_of.Goals as goal

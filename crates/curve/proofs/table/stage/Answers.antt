@@ -7,7 +7,7 @@ use native.Mathlib.Omega.{arith}
 use lib.IntN.{ℤ, pos}
 use lib.ListN.{length, get_or, length-set}
 use Rattle.curve.specs.declared.affine.Weights.{Weights}
-use Rattle.curve.specs.Inner.{Side, Held, Weighed, all_sides, placed}
+use Rattle.curve.specs.Inner.{Side, Held, Weighed, placed}
 use Rattle.rational.proofs.Machine.{told}
 use Rattle.curve.proofs.Sides.{side_back, side_passed}
 use Rattle.curve.proofs.Placed.{Passed, passed_start, passed_next, passed_staged, side-held}

@@ -1,13 +1,12 @@
 -- `stages` meets its contract: what a stage maps is in range, and each stage leaves the next entries of de Casteljau's table.
 use mathlib.Core.Path.{◌≡◌, refl, sym, ◌∙◌, subst}
 use mathlib.Core.List.{List}
-use Prim.Native.Nat.{ℕ, ◌+◌, ◌-◌, ◌≤◌}
+use Prim.Native.Nat.{ℕ, ◌+◌, ◌-◌}
 use native.Mathlib.Omega.{arith}
 use lib.IntN.{ℤ}
-use lib.ListN.{length}
 use Rattle.curve.specs.declared.Rect.{Rect}
-use Rattle.curve.specs.Inner.{Held, Factors, Stored, all_sides, placed}
-use Rattle.curve.proofs.Stages.{table-held, After, after-start, after-entry, after_next, after-end}
+use Rattle.curve.specs.Inner.{Held, Factors, Stored, placed}
+use Rattle.curve.proofs.Stages.{table-held, after-start, after-entry, after_next, after-end}
 use Rattle.curve.proofs.table.stages.Goals as goal
 
 -- a rectangle that was read and stored

@@ -1,7 +1,6 @@
 -- `take_sides` meets its contract: a test that fails refuses the curve, and where none fails its points stand in their places.
 use mathlib.Core.Path.{◌≡◌, sym, ◌∙◌, subst}
 use mathlib.Core.Bool.{true, false, ◌&&◌}
-use Prim.Native.Nat.{ℕ, ◌+◌, ◌≤◌, ◌<◌}
 use native.Mathlib.Omega.{arith}
 use lib.Dec.{T, leb}
 use Rattle.curve.specs.Limits.{max_degree}
