@@ -1,5 +1,5 @@
 -- `enclose_load` meets its contract: a refusal of its numbers or of its sides, or the rectangle.
-use Rattle.std.proofs.Common.{◌≡◌, sym, ap, ap₂, ◌∙◌, subst, T, w32, to_z, of_z}
+use Rattle.std.proofs.Common.{rules, ◌≡◌, sym, ap, ap₂, ◌∙◌, subst, T, w32, to_z, of_z}
 use lib.Ieee.{Float}
 use Rattle.rational.specs.Rounding.{down, up}
 use Rattle.curve.specs.declared.Interval.{Interval}
@@ -41,9 +41,9 @@ about-sides : (x : Float) {i : Interval} → T (is_load x) → i ≡ steps_about
 unfolding steps_about
 about-sides x t e = subst Sides (sym e) (record { at = elim [ down ↦ load_side down x t | up ↦ load_side up x t ] })
 
--- so is the spread rounded up, as it is passed on
-by-side : (x : Float) {i : Interval} → T (is_load x) → i ≡ steps_about x → Side (to_z w32 (of_z w32 i.high))
-by-side x t e = let s = about-sides x t e in side_passed (s.at up)
+-- so are the ends of the spread's, as one of them is passed on; both are proved, so that the wrong one is refused where the result is told
+spread_sides : (x : Float) {i : Interval} → T (is_load x) → i ≡ steps_about x → Side (to_z w32 (of_z w32 i.low)) × Side (to_z w32 (of_z w32 i.high))
+spread_sides x t e = let s = about-sides x t e in (side_passed (s.at down), side_passed (s.at up))
 
 pub widened-requires-clause-sides : goal.widened-requires-clause-sides
 widened-requires-clause-sides c =
@@ -51,7 +51,8 @@ widened-requires-clause-sides c =
 
 pub widened-requires-clause-side : goal.widened-requires-clause-side
 widened-requires-clause-side c =
-    by-side c.args.spread (in-range _ _ _ c.number_refusal-refusal.ensures c.if-refusal-ne0.false).2 c.steps_about-by.ensures
+    let (low, high) = spread_sides c.args.spread (in-range _ _ _ c.number_refusal-refusal.ensures c.if-refusal-ne0.false).2 c.steps_about-by.ensures in
+    search rules
 
 pub widened-requires-2-clause-sides : goal.widened-requires-2-clause-sides
 widened-requires-2-clause-sides c =
@@ -59,7 +60,8 @@ widened-requires-2-clause-sides c =
 
 pub widened-requires-2-clause-side : goal.widened-requires-2-clause-side
 widened-requires-2-clause-side c =
-    by-side c.args.spread (in-range _ _ _ c.number_refusal-refusal.ensures c.if-refusal-ne0.false).2 c.steps_about-by.ensures
+    let (low, high) = spread_sides c.args.spread (in-range _ _ _ c.number_refusal-refusal.ensures c.if-refusal-ne0.false).2 c.steps_about-by.ensures in
+    search rules
 
 -- the spread rounded up, as it is passed on
 by-is : (x : Float) {i : Interval} → T (is_load x) → i ≡ steps_about x → to_z w32 (of_z w32 i.high) ≡ step_at up x

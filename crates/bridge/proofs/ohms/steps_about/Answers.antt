@@ -1,5 +1,5 @@
 -- `steps_about` meets its contract: those of its size, and below zero the same turned about.
-use Rattle.std.proofs.Common.{◌≡◌, sym, ap, ap₂, ◌∙◌, subst, T, ℤ, pos, neg_ℤ, ◌-ℤ◌, w32, FitsSigned, to_z, of_z}
+use Rattle.std.proofs.Common.{rules, ◌≡◌, sym, ap, ap₂, ◌∙◌, subst, T, ℤ, pos, neg_ℤ, ◌-ℤ◌, w32, FitsSigned, to_z, of_z}
 use lib.IntN.{+ℤ_idl, neg_ℤ-neg_ℤ}
 use lib.Ieee.{Float}
 use Rattle.rational.specs.Rounding.{Rounding, down, up}
@@ -39,17 +39,24 @@ module _ (x : Float) (size : Interval) (t : T (is_load x)) (below : (o : Roundin
   turned : (o : Rounding) → to_z w32 (of_z w32 (pos 0 -ℤ to_z w32 (of_z w32 (end (opposite o) size)))) ≡ step_at o x
   turned o = ap (λ (z : ℤ). to_z w32 (of_z w32 z)) (side-is o) ∙ side_back (load_side o x t)
 
+  -- either end of the size, taken off 0, fits; both are proved for each side, so that the wrong end is refused where the result is told
+  fits_both :
+      FitsSigned w32 (pos 0 -ℤ to_z w32 (of_z w32 size.low)) × FitsSigned w32 (pos 0 -ℤ to_z w32 (of_z w32 size.high))
+  fits_both = (fits up, fits down)
+
 pub overflow_sub-result : goal.overflow_sub-result
 overflow_sub-result c =
-    fits c.args.x c.size_about-size.result c.requires
-    (λ o. about_below c.args.x c.well_formed.0.1 c.requires c.if-bits-lt-SIGN.false o ∙ ap (λ (i : Interval). neg_ℤ (end (opposite o) i)) (sym c.size_about-size.ensures))
-    down
+    let (low, high) =
+    fits_both c.args.x c.size_about-size.result c.requires
+    (λ o. about_below c.args.x c.well_formed.0.1 c.requires c.if-bits-lt-SIGN.false o ∙ ap (λ (i : Interval). neg_ℤ (end (opposite o) i)) (sym c.size_about-size.ensures)) in
+    search rules
 
 pub overflow_sub-result-2 : goal.overflow_sub-result-2
 overflow_sub-result-2 c =
-    fits c.args.x c.size_about-size.result c.requires
-    (λ o. about_below c.args.x c.well_formed.0.1 c.requires c.if-bits-lt-SIGN.false o ∙ ap (λ (i : Interval). neg_ℤ (end (opposite o) i)) (sym c.size_about-size.ensures))
-    up
+    let (low, high) =
+    fits_both c.args.x c.size_about-size.result c.requires
+    (λ o. about_below c.args.x c.well_formed.0.1 c.requires c.if-bits-lt-SIGN.false o ∙ ap (λ (i : Interval). neg_ℤ (end (opposite o) i)) (sym c.size_about-size.ensures)) in
+    search rules
 
 pub returns : goal.returns
 unfolding steps_about
