@@ -7,12 +7,19 @@ use std::io;
 use std::io::{Read, Write};
 
 // The most bytes that are read.
-const MOST_READ: u64 = 4096;
+const MOST_READ: usize = 4096;
 
 fn main(rt: HostRuntime) -> io::Result<()> {
-    let mut input = Vec::new(rt.alloc());
-    rt.stdin().take(MOST_READ).read_to_end(&mut input)?;
+    let mut input = [0u8; MOST_READ];
+    let mut size = 0;
+    while size < MOST_READ {
+        let n = rt.stdin().read(&mut input[size..])?;
+        if n == 0 {
+            break;
+        }
+        size += n;
+    }
     let mut shown = [0u8; MOST_SHOWN];
-    let n = report(&input, &mut shown);
+    let n = report(&input[..size], &mut shown);
     rt.stdout().write_all(&shown[..n])
 }
