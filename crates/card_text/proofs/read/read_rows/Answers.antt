@@ -1,5 +1,5 @@
 -- `read_rows` meets its contract: each turn reads the line of one more rectangle.
-use Rattle.std.proofs.Common.{◌≡◌, ℕ, ◌+◌, sym, ap, ◌∙◌, subst, arith, slice_set}
+use Rattle.std.proofs.Common.{◌≡◌, ℕ, ◌+◌, sym, ap, ◌∙◌, subst, arith}
 use mathlib.Core.Path.{subst₂}
 use lib.ListN.{replicate, set}
 use Rattle.curve.specs.declared.Rect.{Rect}

@@ -1,5 +1,5 @@
 -- `write_rows` meets its contract: each turn puts the line of one more rectangle behind the others.
-use Rattle.std.proofs.Common.{◌≡◌, ℕ, ℤ, List, ◌+◌, ◌*◌, ◌≤◌, length, sym, ap, ◌∙◌, arith, add-one}
+use Rattle.std.proofs.Common.{◌≡◌, ℤ, List, ◌*◌, ◌≤◌, length, sym, ap, ◌∙◌, arith, add-one}
 use Rattle.columns.specs.Line.{placed, after_line}
 use Rattle.columns.proofs.Placed.{placed-none, placed_then}
 use Rattle.curve.specs.declared.Curve.{Curve}

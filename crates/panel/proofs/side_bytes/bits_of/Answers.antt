@@ -1,7 +1,7 @@
 -- `bits_of` meets its contract: nothing is lost on the way from an i32 to a u64.
-use Rattle.std.proofs.Common.{◌≡◌, ◌∙◌, arith, pos, ℤ, ◌+ℤ◌, ◌<ℤ◌}
+use Rattle.std.proofs.Common.{◌∙◌, arith, pos, ℤ}
 use mir.Syntax.{w32, w64}
-use mir.Val.{SFits, to_z, of_z}
+use mir.Val.{SFits}
 use mir.ValLaws.{to_z-of_z}
 use Rattle.rational.proofs.Machine.{back, wide}
 use Rattle.panel.specs.Panel.{bits_of}
