@@ -105,16 +105,16 @@ enum jusqani_refusal { JUSQANI_REFUSALS(JUSQANI_REFUSED) };
  * measures them and fails where one takes more. Other processors differ.
  */
 #define JUSQANI_STACK(X) \
-    X(panel, 672) \
+    X(panel, 704) \
     X(evaluate, 427) \
-    X(evaluate_sixteenths, 370) \
-    X(subdivide, 1336) \
-    X(elevate, 568) \
+    X(evaluate_sixteenths, 600) \
+    X(subdivide, 1352) \
+    X(elevate, 472) \
     X(bounds, 440) \
-    X(search, 11704) \
+    X(search, 11736) \
     X(choose_setting, 8184) \
     X(enclose, 56) \
-    X(read_card, 672) \
+    X(read_card, 704) \
     X(write_card, 520)
 
 /* The highest degree of a curve, the steps in an ohm, and the most records of a list of settings. */

@@ -17,8 +17,9 @@ merge() {
     rm -r "$merged"
 }
 
+# For every x86-64 processor: rt's default asks for more than a client's may have, and a static library does not check that.
 make_library() {
-    (cd crates/foreign && rt lib) && (cd crates/panel && rt lib) && merge foreign panel
+    (cd crates/foreign && rt lib --cpu x86-64) && (cd crates/panel && rt lib --cpu x86-64) && merge foreign panel
 }
 
 # build_library NEED..: with what the script needs besides, which is looked for first.
