@@ -116,10 +116,6 @@ facts_good {c} f k l =
     (true_of (sides_in_range (point c k)) (sides_range (point c k) (f.in_range k l)))
     (true_of (sides_ordered (point c k)) (sides-order (point c k) (f.ordered k l)))
 
--- a test that every accepted curve passes refuses those that do not
-pub refused-unless : (c : Curve) (b : Bool) → (Facts c → b ≡ true) → b ≡ false → eqb (curve_refusal c).number 0 ≡ false
-refused-unless c b passes fails = ne_eqb (curve_refusal c).number 0 (λ h. subst T (sym (passes (number_facts c h)) ∙ fails) tt)
-
 -- number 0 is enough
 pub number-accepted : (c : Curve) → (curve_refusal c).number ≡ 0 → Accepted c
 number-accepted c h = facts_accepted (number_facts c h)
@@ -127,8 +123,8 @@ number-accepted c h = facts_accepted (number_facts c h)
 pub accepted_facts : (c : Curve) → Accepted c → Facts c
 accepted_facts c a = number_facts c (ap (λ (r : Refusal). r.number) a)
 
-pub accepted-ready : (c : Curve) → Accepted c → Ready c
-accepted-ready c a =
+pub accepted_ready : (c : Curve) → Accepted c → Ready c
+accepted_ready c a =
     let f = accepted_facts c a in
     record { some = f.some; few = f.few; held = λ k l. record { at = λ x. record { at = f.in_range k l x } } }
 
@@ -188,13 +184,6 @@ pub call_parameter : (c : Curve) (num den : ℕ) → Accepted c → call_refusal
 unfolding call_refusal
 call_parameter c num den a = or_none (curve_refusal c) (parameter_refusal num den) a
 
--- a call is refused where its curve is, and where its parameter is
-pub call_refused : (c : Curve) (num den : ℕ) → eqb (curve_refusal c).number 0 ≡ false → eqb (call_refusal c num den).number 0 ≡ false
-call_refused c num den h = ne_eqb (call_refusal c num den).number 0 (λ e. eqb-false (curve_refusal c).number 0 h (ap (λ (r : Refusal). r.number) (call_accepted c num den e).0))
-
-pub call_refused-at : (c : Curve) (num den : ℕ) → eqb (parameter_refusal num den).number 0 ≡ false → eqb (call_refusal c num den).number 0 ≡ false
-call_refused-at c num den h = ne_eqb (call_refusal c num den).number 0 (λ e. eqb-false (parameter_refusal num den).number 0 h (ap (λ (r : Refusal). r.number) (call_accepted c num den e).1))
-
 pub accepted_call : (c : Curve) (num den : ℕ) → Accepted c → AcceptedAt num den → call_refusal c num den ≡ none
 accepted_call c num den a b = call_parameter c num den a ∙ b
 
@@ -216,12 +205,6 @@ module _ (c : Curve) (num den : ℕ) where
       ne_eqb (subdivision_refusal c num den).number 0 (λ e.
       let (ok, at, room) = subdivision_accepted e in
       eqb-false (call_refusal c num den).number 0 h (ap (λ (r : Refusal). r.number) (accepted_call c num den ok at)))
-
-  pub subdivision_refused-sum : eqb (sum_refusal (piece_sum c)).number 0 ≡ false → eqb (subdivision_refusal c num den).number 0 ≡ false
-  subdivision_refused-sum h =
-      ne_eqb (subdivision_refusal c num den).number 0 (λ e.
-      let (ok, at, room) = subdivision_accepted e in
-      eqb-false (sum_refusal (piece_sum c)).number 0 h (ap (λ (r : Refusal). r.number) room))
 
   pub accepted_subdivision : Accepted c → AcceptedAt num den → AcceptedSum (piece_sum c) → subdivision_refusal c num den ≡ none
   accepted_subdivision a b s = subdivision_own a ∙ or_none (parameter_refusal num den) (sum_refusal (piece_sum c)) b ∙ s

@@ -17,7 +17,7 @@ use Rattle.curve.specs.Refusals.{curve_refusal}
 use Rattle.curve.specs.Calls.{bounded}
 use Rattle.curve.specs.Inner.{Side, Sides, Held}
 use Rattle.curve.proofs.Refused.{by_number}
-use Rattle.curve.proofs.Accepted.{number-accepted, accepted-ready}
+use Rattle.curve.proofs.Accepted.{number-accepted, accepted_ready}
 use Rattle.curve.proofs.Answers.{bounded-accepted, bounded-refused}
 use Rattle.curve.proofs.Ranges.{zero_held}
 
@@ -49,7 +49,7 @@ bounds_held c = by_number (curve_refusal c).number accepted refused
     accepted : (curve_refusal c).number ≡ 0 → Held (bounded c).rect
     accepted h =
         let ok = number-accepted c h in
-        subst (λ (x : BoundingRect). Held x.rect) (sym (bounded-accepted c ok)) (hull-to-held (point c) c.degree (accepted-ready c ok).held)
+        subst (λ (x : BoundingRect). Held x.rect) (sym (bounded-accepted c ok)) (hull-to-held (point c) c.degree (accepted_ready c ok).held)
 
     refused : eqb (curve_refusal c).number 0 ≡ false → Held (bounded c).rect
     refused e = subst (λ (x : BoundingRect). Held x.rect) (sym (bounded-refused c e)) zero_held

@@ -25,12 +25,6 @@ module _ (n : ℕ) (P : ℕ → Rect) where
       sym (affine-rect-first (n + 1) (omega arith) (P n) (P (n + 1)))
       ∙ ap₂ (λ (m i : ℕ). affine_rect (n + 1) m (n + 1) (P i) (P (n + 1))) (sym nothing) (sym last)
 
-  pub elevated-next : (k : ℕ) → affine_rect (k + 1) (n + 1 - (k + 1)) (n + 1) (P k) (P (k + 1)) ≡ elevated_point n P (k + 1)
-  unfolding elevated_point
-  elevated-next k =
-      let one_less : k + 1 - 1 ≡ k = omega arith in
-      ap (λ (i : ℕ). affine_rect (k + 1) (n + 1 - (k + 1)) (n + 1) (P i) (P (k + 1))) (sym one_less)
-
   pub exact_first : elevated_exact n P 0 ≡ true
   unfolding elevated_exact
   exact_first =
@@ -42,9 +36,3 @@ module _ (n : ℕ) (P : ℕ → Rect) where
   exact_last =
       ap (λ (m : ℕ). exact_rect (n + 1) m (n + 1) (P (n + 1 - 1)) (P (n + 1))) (sub_self (n + 1))
       ∙ exact_rect-first (n + 1) (P (n + 1 - 1)) (P (n + 1))
-
-  pub exact_next : (k : ℕ) → exact_rect (k + 1) (n + 1 - (k + 1)) (n + 1) (P k) (P (k + 1)) ≡ elevated_exact n P (k + 1)
-  unfolding elevated_exact
-  exact_next k =
-      let one_less : k + 1 - 1 ≡ k = omega arith in
-      ap (λ (i : ℕ). exact_rect (k + 1) (n + 1 - (k + 1)) (n + 1) (P i) (P (k + 1))) (sym one_less)

@@ -2,6 +2,7 @@
 pub mod Sides
 pub mod Weighing
 pub mod Refused
+pub mod Listed
 pub mod Places
 pub mod Stages
 pub mod Placed

@@ -11,7 +11,7 @@ use native.Mathlib.Omega.{arith}
 use borrow.Author.Tests.{eq-eqb, ne_eqb}
 use lib.Dec.{eqb}
 use lib.IntN.{ℤ, pos}
-use lib.ListN.{length, get_or, set, replicate, length-set, length-replicate}
+use lib.ListN.{length, get_or, set, replicate, length-set}
 use lib.Seq.{get_or-set_same, get_or-set_other}
 use Rattle.rational.specs.Rounding.{down, up, rounding_of}
 use Rattle.bernstein.specs.Affine.{affine, affine_exact}
@@ -19,8 +19,8 @@ use Rattle.bernstein.specs.DeCasteljau.{all_below}
 use Rattle.bernstein.proofs.EveryMap.{all_zero, all_next}
 use Rattle.curve.specs.declared.Rect.{Rect}
 use Rattle.curve.specs.Limits.{places}
-use Rattle.curve.specs.Rect.{affine_interval, affine_rect, exact_interval, exact_rect, resistance, reactance}
-use Rattle.curve.specs.Inner.{Side, Held, Clear, Stored, Staged, all_sides, placed}
+use Rattle.curve.specs.Rect.{zero_rect, affine_interval, affine_rect, exact_interval, exact_rect, resistance, reactance}
+use Rattle.curve.specs.Inner.{Side, Held, Stored, Staged, all_sides, placed}
 
 -- ---- zeros
 
@@ -29,12 +29,9 @@ get_d_zeros zero i = refl
 get_d_zeros (suc n) zero = refl
 get_d_zeros (suc n) (suc i) = get_d_zeros n i
 
-pub clear : Clear (replicate all_sides (pos 0))
+pub zeros_placed : (k : ℕ) → placed (replicate all_sides (pos 0)) k ≡ zero_rect
 unfolding placed
-clear = record {
-  whole = length-replicate all_sides (pos 0);
-  zero = λ k. rw (get_d_zeros all_sides (4 * k), get_d_zeros all_sides (4 * k + 1), get_d_zeros all_sides (4 * k + 2), get_d_zeros all_sides (4 * k + 3));
-}
+zeros_placed k = rw (get_d_zeros all_sides (4 * k), get_d_zeros all_sides (4 * k + 1), get_d_zeros all_sides (4 * k + 2), get_d_zeros all_sides (4 * k + 3))
 
 -- ---- storing
 
@@ -43,13 +40,6 @@ abbrev pub four : List ℤ → ℕ → ℤ → ℤ → ℤ → ℤ → List ℤ
 four l m a b c d = set (set (set (set l m a) (m + 1) b) (m + 2) c) (m + 3) d
 
 module _ (l : List ℤ) (m : ℕ) (a b c d : ℤ) where
-  four_length : length (four l m a b c d) ≡ length l
-  four_length =
-      length-set (set (set (set l m a) (m + 1) b) (m + 2) c) (m + 3) d
-      ∙ length-set (set (set l m a) (m + 1) b) (m + 2) c
-      ∙ length-set (set l m a) (m + 1) b
-      ∙ length-set l m a
-
   -- what lies outside the four is none of them
   outside : (i j : ℕ) → (i < m) ⊎ (m + 4 ≤ i) → m ≤ j → j < m + 4 → i ≡ j → ⊥
   outside i j (inl h) from to e = omega arith
@@ -120,7 +110,6 @@ stored l k p whole room =
     let c = p.reactance.low in
     let d = p.reactance.high in
     record {
-      whole = four_length l (4 * k) a b c d;
       here =
           rw (
             four_first l (4 * k) a b c d (omega arith),

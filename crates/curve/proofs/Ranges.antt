@@ -17,7 +17,7 @@ use Rattle.curve.specs.Refusals.{Accepted}
 use Rattle.curve.specs.Inner.{Side, Held}
 use Rattle.curve.specs.Calls.{subdivision_refusal, elevation_refusal, subdivided, elevated}
 use Rattle.curve.proofs.Refused.{by_number}
-use Rattle.curve.proofs.Accepted.{accepted-ready, subdivision_accepted, elevation_accepted}
+use Rattle.curve.proofs.Accepted.{accepted_ready, subdivision_accepted, elevation_accepted}
 use Rattle.curve.proofs.Answers.{subdivided-accepted, subdivided-refused, elevated-accepted, elevated-refused}
 use Rattle.curve.proofs.Points.{point_at}
 use Rattle.curve.proofs.Pieces.{left-accepted, right-accepted, elevated_of-accepted}
@@ -27,7 +27,7 @@ pub record Ranged (c : Curve) : Type 0 where
   pub held : (k : ℕ) → k ≤ c.degree → Held (point c k)
 
 pub accepted_ranged : (c : Curve) → Accepted c → Ranged c
-accepted_ranged c ok = let r = accepted-ready c ok in record { few = r.few; held = r.held }
+accepted_ranged c ok = let r = accepted_ready c ok in record { few = r.few; held = r.held }
 
 -- ---- zero
 

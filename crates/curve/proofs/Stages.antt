@@ -21,9 +21,9 @@ use Rattle.curve.specs.Limits.{max_degree, max_side}
 use Rattle.curve.specs.Rect.{zero_rect, affine_rect, affine_interval, exact_rect, Coordinate, resistance, reactance, along, end}
 use Rattle.curve.specs.Curve.{point, points_of, map_at, exact_at, load_of, left_of, right_of, table_exact}
 use Rattle.curve.specs.Refusals.{Accepted}
-use Rattle.curve.specs.Inner.{Side, Held, Factors, Clear, Stored, Taken, Begun, Staged, Tabled, placed}
+use Rattle.curve.specs.Inner.{Side, Held, Factors, Stored, Taken, Begun, Staged, Tabled, placed}
 use Rattle.curve.proofs.Places.{is_points, points_length, points_at}
-use Rattle.curve.proofs.Accepted.{accepted-ready}
+use Rattle.curve.proofs.Accepted.{accepted_ready}
 
 -- ---- sides stay in range
 
@@ -82,12 +82,12 @@ module _ (s t d n : ℕ) (P : ℕ → Rect) where
     pub flag : exact ≡ all_below j stage_test
 
   pub after-start :
-      (left left' right : List ℤ) → ((k : ℕ) → placed right k ≡ P k) → ((k : ℕ) → n < k → P k ≡ zero_rect) → Clear left → Stored 0 (P 0) left left' →
+      (left left' right : List ℤ) → ((k : ℕ) → placed right k ≡ P k) → ((k : ℕ) → n < k → P k ≡ zero_rect) → ((k : ℕ) → placed left k ≡ zero_rect) → Stored 0 (P 0) left left' →
       After 0 left' right true
-  after-start left left' right holds past clear stored = record {
+  after-start left left' right holds past zeros stored = record {
     left_piece = λ k h. let e : k ≡ 0 = omega arith in ap (placed left') e ∙ stored.here ∙ sym (left-first map P) ∙ ap (DeCasteljau.left map P) (sym e);
     entries = λ k h. holds k ∙ sym (entry_running map P n 0 k (omega arith) ∙ table-zero map P k);
-    left_past = λ k h. stored.kept k (λ e. omega arith) ∙ clear.zero k;
+    left_past = λ k h. stored.kept k (λ e. omega arith) ∙ zeros k;
     right_past = λ k h. holds k ∙ past k h;
     flag = sym (all_zero stage_test);
   }
@@ -144,8 +144,8 @@ module _ (s t d n : ℕ) (P : ℕ → Rect) where
 
 pub taken_begun : (c : Curve) (l : List ℤ) → Accepted c → Taken c l → Begun c.degree l
 taken_begun c l ok taken =
-    let ready = accepted-ready c ok in
-    record { few = ready.few; whole = taken.whole; held = λ k h. subst Held (sym (taken.at k h)) (ready.held k h); past = taken.past }
+    let ready = accepted_ready c ok in
+    record { few = ready.few; held = λ k h. subst Held (sym (taken.at k h)) (ready.held k h); past = taken.past }
 
 -- all places of a list are a record's, if zeros stand past the degree
 all_places : (n : ℕ) (l : List ℤ) (f : ℕ → Rect) → n ≤ max_degree → ((k : ℕ) → k ≤ n → placed l k ≡ f k) → ((k : ℕ) → n < k → placed l k ≡ zero_rect) →

@@ -1,13 +1,13 @@
 -- What the functions inside the crate ask of each other. No public contract cites it.
 -- Assumes nothing.
-use Rattle.std.specs.Prelude.{◌≡◌, Bool, List, ℕ, suc, ◌+◌, ◌*◌, ◌/◌, ◌≤◌, ◌<◌, ℤ, pos, neg_ℤ, length, get_or, ◌≤ℤ◌}
+use Rattle.std.specs.Prelude.{◌≡◌, Bool, List, ℕ, suc, ◌+◌, ◌*◌, ◌≤◌, ◌<◌, ℤ, pos, neg_ℤ, get_or, ◌≤ℤ◌}
+use Rattle.std.specs.Int.{div_ceil}
 use Rattle.rational.specs.Rounding.{Rounding}
 use Rattle.bernstein.specs.DeCasteljau as DeCasteljau
 use Rattle.bernstein.specs.DeCasteljau.{all_below}
 use Rattle.curve.specs.declared.Interval.{Interval}
 use Rattle.curve.specs.declared.Rect.{Rect}
 use Rattle.curve.specs.declared.Curve.{Curve}
-use Rattle.curve.specs.declared.affine.Weights.{Weights}
 use Rattle.curve.specs.Limits.{max_degree, places, max_side, max_den}
 use Rattle.curve.specs.Rect.{Coordinate, zero_rect, end, along, affine_rect, exact_rect}
 use Rattle.curve.specs.Curve.{point}
@@ -31,12 +31,6 @@ pub record Factors (s t den : ℕ) : Type 0 where
   pub positive : 0 < den
   pub small : den ≤ max_den
 
--- a factor of a divisor
-pub record Factor (t den : ℕ) : Type 0 where
-  pub positive : 0 < den
-  pub small : den ≤ max_den
-  pub most : t ≤ den
-
 -- the scale of a factor's part of its divisor, 2 to the power 31
 abbrev pub scale : ℕ
 scale = 2147483648
@@ -48,15 +42,7 @@ pub record Part (t den part : ℕ) : Type 0 where
 
 -- how often a divisor goes into the least multiple of it that is at least twice the largest side
 abbrev pub turns_of : ℕ → ℕ
-turns_of den = (33554431 + den) / den
-
--- what the maps with one factor of a divisor share
-pub record Weighed (w : Weights) : Type 0 where
-  pub factor : Factor w.t w.den
-  pub part : Part w.t w.den w.part
-  pub level : w.lift * w.t ≡ w.back * w.den
-  pub high : 33554432 ≤ w.lift
-  pub low : w.lift ≤ 33554431 + max_den
+turns_of den = div_ceil 33554432 den
 
 -- ---- a table's sides, one after the other, four for each place
 
@@ -72,27 +58,19 @@ placed l k =
       reactance = record { low = get_or l (4 * k + 2) (pos 0); high = get_or l (4 * k + 3) (pos 0) };
     }
 
--- zeros everywhere
-pub record Clear (l : List ℤ) : Type 0 where
-  pub whole : length l ≡ all_sides
-  pub zero : (k : ℕ) → placed l k ≡ zero_rect
-
 -- place k is given a rectangle, and the others are kept
 pub record Stored (k : ℕ) (p : Rect) (before after : List ℤ) : Type 0 where
-  pub whole : length after ≡ length before
   pub here : placed after k ≡ p
   pub kept : (i : ℕ) → (i ≡ k → ⊥) → placed after i ≡ placed before i
 
 -- the places hold a curve's control points, and zeros past them
 pub record Taken (c : Curve) (l : List ℤ) : Type 0 where
-  pub whole : length l ≡ all_sides
   pub at : (k : ℕ) → k ≤ c.degree → placed l k ≡ point c k
   pub past : (k : ℕ) → c.degree < k → placed l k ≡ zero_rect
 
 -- what a table of degree n asks of the places that it starts from
 pub record Begun (n : ℕ) (l : List ℤ) : Type 0 where
   pub few : n ≤ max_degree
-  pub whole : length l ≡ all_sides
   pub held : (k : ℕ) → k ≤ n → Held (placed l k)
   pub past : (k : ℕ) → n < k → placed l k ≡ zero_rect
 

@@ -2,6 +2,8 @@ pub mod Limits
 pub mod Rect
 pub mod Curve
 pub mod Refusals
+pub mod Reason
 pub mod Ohms
 pub mod Calls
+pub mod Results
 pub mod Inner

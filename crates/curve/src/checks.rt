@@ -1,46 +1,25 @@
-// The checks of a curve, of a parameter and of a call: the first refusal that applies, in the papers' order.
+// The checks of a curve, of a parameter and of a call: the first reason to refuse that applies, in the papers' order.
 ghost use Rattle.std.specs.Prelude.{◌≡◌, ◌&&◌, ◌≤◌, leb};
 ghost use Rattle.curve.specs.Rect.{in_range, ends_in_range, sides_in_range, ends_ordered, sides_ordered};
 ghost use Rattle.curve.specs.Limits.{max_degree};
 ghost use Rattle.curve.specs.Refusals.{
   ◌or_else◌,
-  unless_at,
   degree_refusal,
   range_refusal,
   order_refusal,
   curve_refusal,
   parameter_refusal,
+  highest_refusal,
 };
-ghost use Rattle.curve.specs.Calls.{call_refusal, subdivision_refusal, elevation_refusal};
+ghost use Rattle.curve.specs.Reason.{refusal_of};
 
-use crate::sums::{elevated_sum, piece_sum, sum_refusal};
-use crate::{Curve, Interval, MAX_DEGREE, MAX_DEN, MAX_SIDE, MIN_SIDE, Rect, Refusal};
-
-// This refusal unless the test held.
-pub fn refused_unless(ok: bool, number: u32, place: usize) -> Refusal
-    ensures { result ≡ unless_at ok number place }
-{
-    if ok {
-        return Refusal {
-            number: 0,
-            place: 0,
-        };
-    }
-    Refusal { number, place }
-}
-
-// The first refusal, and the second where the first is none.
-pub fn first_of(a: Refusal, b: Refusal) -> Refusal
-    ensures { result ≡ (a or_else b) }
-{
-    if a.number != 0 { a } else { b }
-}
+use crate::{Curve, Interval, MAX_DEGREE, MAX_DEN, MAX_SIDE, MIN_SIDE, Reason, Rect, ensure};
 
 #[tactic(auto, unfolding(crate::specs::Rect::in_range))]
 fn in_range(side: i32) -> bool
     ensures { result ≡ in_range side }
 {
-    MIN_SIDE <= side && side <= MAX_SIDE
+    (MIN_SIDE..=MAX_SIDE).contains(&side)
 }
 
 #[tactic(auto, unfolding(crate::specs::Rect::ends_in_range))]
@@ -50,6 +29,7 @@ pub fn ends_in_range(i: Interval) -> bool
     in_range(i.low) && in_range(i.high)
 }
 
+// Each test of a rectangle asks both coordinates. With the interval's test as a closure it would still be a line, and would need the closure's clause.
 #[tactic(auto, unfolding(crate::specs::Rect::sides_in_range))]
 pub fn sides_in_range(p: Rect) -> bool
     ensures { result ≡ sides_in_range p }
@@ -71,7 +51,7 @@ fn sides_ordered(p: Rect) -> bool
     ends_ordered(p.resistance) && ends_ordered(p.reactance)
 }
 
-// Whether an interval's ends are in range and in order. Of ends in order one test each tells that both are in range.
+// Whether an interval's ends are in range and in order. Of ends in order one test each tells that both are in range, which no range's `contains` says.
 #[tactic(auto, unfolding(crate::specs::Rect::in_range, crate::specs::Rect::ends_in_range, crate::specs::Rect::ends_ordered))]
 fn is_good_interval(i: Interval) -> bool
     ensures { result ≡ (ends_in_range i && ends_ordered i) }
@@ -91,96 +71,72 @@ pub fn is_good(p: Rect) -> bool
 pub fn is_from_one_to(x: u32, largest: u32) -> bool
     ensures { result ≡ (leb 1 x && leb x largest) }
 {
-    1 <= x && x <= largest
+    (1..=largest).contains(&x)
 }
 
 // Refusal 1.
-pub fn degree_refusal(degree: u32) -> Refusal
-    ensures { result ≡ degree_refusal degree }
+#[tactic(auto, unfolding(crate::specs::Reason::refusal_of, crate::specs::Refusals::degree_refusal))]
+pub fn check_degree(degree: u32) -> Result<(), Reason>
+    ensures { refusal_of result ≡ degree_refusal degree }
 {
-    refused_unless(is_from_one_to(degree, MAX_DEGREE), 1, 0)
+    ensure(is_from_one_to(degree, MAX_DEGREE), Reason::Degree)
 }
 
-// The earlier refusal; where there is none, a 3 at this place if a low is above its high. It branches, which is faster in a loop than first_of.
-fn order_refusal(earlier: Refusal, p: Rect, place: usize) -> Refusal
-    ensures { result ≡ (earlier or_else unless_at (sides_ordered p) 3 place) }
-{
-    if earlier.number != 0 {
-        return earlier;
-    }
-    refused_unless(sides_ordered(p), 3, place)
-}
-
-// Refusals 2 and 3 in one pass: a side out of range ends it, and the first low above its high is kept for the end.
-fn points_refusal(c: Curve) -> Refusal
+// Refusal 2: the first rectangle with a side out of range. That the degree is one stays a clause: a curve is document 01's record, which may hold any.
+#[tactic(auto, using(crate::proofs::Refused::first_step), unfolding(crate::specs::Refusals::range_refusal, crate::specs::Refusals::first_failing))]
+fn check_ranges(c: Curve) -> Result<(), Reason>
     requires { c.degree ≤ max_degree }
-    ensures { result ≡ (range_refusal c or_else order_refusal c) }
+    ensures { refusal_of result ≡ range_refusal c }
 {
     let n = c.degree as usize;
-    let mut unordered = Refusal {
-        number: 0,
-        place: 0,
-    };
-    let mut k = 0;
-    while k <= n {
-        let p = c.points[k];
-        if !sides_in_range(p) {
-            return Refusal {
-                number: 2,
-                place: k,
-            };
-        }
-        unordered = order_refusal(unordered, p, k);
-        k += 1;
+    for place in 0..=n {
+        ensure(
+            sides_in_range(c.points[place]),
+            Reason::SideOutOfRange { place },
+        )?;
     }
-    unordered
+    Ok(())
+}
+
+// Refusal 3: the first rectangle with a low above its high.
+#[tactic(auto, using(crate::proofs::Refused::first_step), unfolding(crate::specs::Refusals::order_refusal, crate::specs::Refusals::first_failing))]
+fn check_orders(c: Curve) -> Result<(), Reason>
+    requires { c.degree ≤ max_degree }
+    ensures { refusal_of result ≡ order_refusal c }
+{
+    let n = c.degree as usize;
+    for place in 0..=n {
+        ensure(
+            sides_ordered(c.points[place]),
+            Reason::LowAboveHigh { place },
+        )?;
+    }
+    Ok(())
 }
 
 // Refusals 1 to 3.
 #[tactic(auto, unfolding(crate::specs::Refusals::curve_refusal))]
-pub fn curve_refusal(c: Curve) -> Refusal
-    ensures { result ≡ curve_refusal c }
+pub fn check_curve(c: Curve) -> Result<(), Reason>
+    ensures { refusal_of result ≡ curve_refusal c }
 {
-    let refusal = degree_refusal(c.degree);
-    if refusal.number != 0 {
-        return refusal;
-    }
-    points_refusal(c)
+    check_degree(c.degree)?;
+    check_ranges(c)?;
+    check_orders(c)
 }
 
-// Refusals 4 and 5.
+// Refusals 4 and 5. The two numbers stay apart here and in the calls, as document 01 has them.
 #[tactic(auto, unfolding(crate::specs::Refusals::parameter_refusal))]
-pub fn parameter_refusal(num: u32, den: u32) -> Refusal
-    ensures { result ≡ parameter_refusal num den }
+pub fn check_parameter(num: u32, den: u32) -> Result<(), Reason>
+    ensures { refusal_of result ≡ parameter_refusal num den }
 {
-    let refusal = refused_unless(is_from_one_to(den, MAX_DEN), 4, 0);
-    first_of(refusal, refused_unless(num <= den, 5, 0))
+    ensure(is_from_one_to(den, MAX_DEN), Reason::Denominator)?;
+    ensure(num <= den, Reason::Numerator)
 }
 
-// Refusals 1 to 5.
-#[tactic(auto, unfolding(crate::specs::Calls::call_refusal))]
-pub fn call_refusal(c: Curve, num: u32, den: u32) -> Refusal
-    ensures { result ≡ call_refusal c num den }
+// Refusal 6.
+#[tactic(auto, unfolding(crate::specs::Refusals::highest_refusal))]
+pub fn check_raising(degree: u32) -> Result<(), Reason>
+    ensures { refusal_of result ≡ highest_refusal degree }
 {
-    first_of(curve_refusal(c), parameter_refusal(num, den))
-}
-
-// Refusals 1 to 5, then 17.
-#[tactic(auto, unfolding(crate::specs::Calls::subdivision_refusal))]
-pub fn subdivision_refusal(c: Curve, num: u32, den: u32) -> Refusal
-    ensures { result ≡ subdivision_refusal c num den }
-{
-    let first = call_refusal(c, num, den);
-    let last = sum_refusal(piece_sum(c.sum, c.degree));
-    first_of(first, last)
-}
-
-// Refusals 1 to 3, 6 at the highest degree, then 17.
-#[tactic(auto, unfolding(crate::specs::Calls::elevation_refusal, crate::specs::Refusals::highest_refusal))]
-pub fn elevation_refusal(c: Curve) -> Refusal
-    ensures { result ≡ elevation_refusal c }
-{
-    let highest = refused_unless(c.degree < MAX_DEGREE, 6, 0);
-    let own = first_of(highest, sum_refusal(elevated_sum(c.sum)));
-    first_of(curve_refusal(c), own)
+    ensure(degree < MAX_DEGREE, Reason::HighestDegree)
 }

@@ -1,4 +1,5 @@
 // Sides in single-precision ohms, with nothing lost: a side is at most 2^24 steps, and a step is a power of two of an ohm.
+// In range stays a clause, here as elsewhere: a `Rect` lies in memory as C lends it, with any numbers.
 ghost use Rattle.std.specs.Prelude.{◌≡◌};
 ghost use Rattle.curve.specs.Inner.{Side, Held};
 ghost use Rattle.curve.specs.Ohms.{ohm, ohms_of, checked_ohms};

@@ -3,6 +3,7 @@
 #![tactic(auto)]
 
 ghost use Rattle.std.specs.Prelude.{◌≡◌};
+ghost use Rattle.curve.specs.Results.{as_evaluation, as_subdivision, as_elevation, as_bounding_rect};
 ghost use Rattle.curve.specs.Calls.{evaluated, subdivided, elevated, bounded};
 
 mod affine;
@@ -10,28 +11,33 @@ mod checks;
 mod display;
 mod elevating;
 mod hull;
+mod reason;
+mod records;
 mod sums;
 mod table;
 mod zeros;
 
-use checks::{call_refusal, elevation_refusal, subdivision_refusal};
+use checks::{check_parameter, check_raising};
 use display::ohms_of;
 use elevating::elevated_points;
 use hull::hull_of;
 use sums::{elevated_sum, piece_sum};
-use table::{SIDES, accepts, accepts_subdivision, points_of, rect_at, table_of};
+use table::{points_of, rect_at, sides_of, table_of};
+
+// Why a call is refused, and the result of a test.
+pub use reason::{Reason, ensure};
 
 // The check of a degree by itself, refusal 1, and of a curve by itself, refusals 1 to 3.
-pub use checks::{curve_refusal, degree_refusal};
+pub use checks::{check_curve, check_degree};
 
-// Refusals from tests, and the first of two, for whoever adds refusals of their own.
-pub use checks::{first_of, is_from_one_to, refused_unless};
+// Whether a number is from 1 to a largest one.
+pub use checks::is_from_one_to;
 
 // The check of an interval by itself: both ends are in range. And of a rectangle by itself: its sides are in range and in order.
 pub use checks::{ends_in_range, is_good};
 
 // Refusal 17, of a sum of steps that a call would reach.
-pub use sums::sum_refusal;
+pub use sums::check_sum;
 
 // A rectangle in ohms.
 pub use display::checked_ohms;
@@ -56,15 +62,6 @@ pub const MAX_DEN: u32 = 65536;
 // The largest sum of steps of a curve.
 pub const MAX_SUM: u64 = 65535;
 
-// The exact flag of a refused call.
-const DARK: bool = false;
-
-// The refusal of an accepted call.
-const NOT_REFUSED: Refusal = Refusal {
-    number: 0,
-    place: 0,
-};
-
 // The values from low to high, in steps, both ends included. It lies in memory as C lays it out, and so does a rectangle: callers in C lend records that hold one.
 #[repr(C)]
 #[derive(Clone, Copy)]
@@ -82,7 +79,7 @@ pub struct Rect {
 }
 
 // A curve of a degree n, whose control points are the rectangles 0 to n; places past n are not read. The sum of steps tells how far a side may lie beyond that of
-// the same cuts and raisings without rounding, from the card on. The points stand first, where they are copied fastest.
+// the same cuts and raisings without rounding, from the card on. The points stand first, where they are copied fastest; they are an array with the degree beside it, since document 01's record has nine places and there is no heap.
 #[derive(Clone, Copy)]
 pub struct Curve {
     pub points: [Rect; PLACES],
@@ -90,11 +87,20 @@ pub struct Curve {
     pub sum: u16,
 }
 
-// A refusal's number and place. Number 0 says that the call was accepted.
+// A refusal's number and place, as the papers list them; number 0 says that the call was accepted. It stays a record of the two, since the definitions of specs/ and
+// what is promised of them (`ListedAnswers`) speak of both.
 #[derive(Clone, Copy)]
 pub struct Refusal {
     pub number: u32,
     pub place: usize,
+}
+
+impl Refusal {
+    // The refusal of an accepted call.
+    pub const NONE: Refusal = Refusal {
+        number: 0,
+        place: 0,
+    };
 }
 
 // A rectangle in ohms: resistance (R) and reactance (X), low and high.
@@ -106,7 +112,23 @@ pub struct Ohms {
     pub xhigh: f32,
 }
 
-// The answer of evaluate, and of the reading at sixteenths. The flag `exact` of each answer tells that no division left a remainder; it is dark, false, where the call is refused.
+// A value whose sides were rounded outward, and whether no division left a remainder.
+#[derive(Clone, Copy)]
+pub struct Rounded<T> {
+    pub value: T,
+    pub exact: bool,
+}
+
+// What a reading gives where it is not refused: a load, the same in ohms, and whether no division left a remainder.
+#[derive(Clone, Copy)]
+pub struct Reading {
+    pub load: Rect,
+    pub ohms: Ohms,
+    pub exact: bool,
+}
+
+// The answer of evaluate, and of the reading at sixteenths. It stays a record, as the three below: demand 1 asks that a refusal carries its number and place and
+// zeros, and the definitions of specs/Calls.antt answer that. The flag `exact` of each answer tells that no division left a remainder; it is dark, false, where the call is refused.
 #[derive(Clone, Copy)]
 pub struct Evaluation {
     pub refusal: Refusal,
@@ -143,105 +165,97 @@ pub struct BoundingRect {
 pub fn subdivide(c: Curve, num: u32, den: u32) -> Subdivision
     ensures { result ≡ subdivided c num den }
 {
-    let mut left = [0; SIDES];
-    let mut right = [0; SIDES];
-    if !accepts_subdivision(&mut right, c, num, den) {
-        let none = zero_curve();
-        return Subdivision {
-            refusal: subdivision_refusal(c, num, den),
-            left: none,
-            right: none,
-            exact: DARK,
-        };
-    }
+    Subdivision::from(try_subdivide(c, num, den))
+}
+
+// The same as a result.
+#[tactic(auto, unfolding(crate::specs::Calls::subdivided, crate::specs::Calls::subdivision_refusal, crate::specs::Calls::call_refusal))]
+pub fn try_subdivide(c: Curve, num: u32, den: u32) -> Result<Rounded<(Curve, Curve)>, Reason>
+    ensures { as_subdivision result ≡ subdivided c num den }
+{
+    let sides = sides_of(c)?;
     let degree = c.degree;
-    let sum = piece_sum(c.sum, degree) as u16;
-    let n = degree as usize;
-    let exact = table_of(&mut left, &mut right, n, num, den);
-    Subdivision {
-        refusal: NOT_REFUSED,
-        left: Curve {
-            degree,
-            sum,
-            points: points_of(&left),
-        },
-        right: Curve {
-            degree,
-            sum,
-            points: points_of(&right),
-        },
-        exact,
-    }
+    check_parameter(num, den)?;
+    let sum = check_sum(piece_sum(c.sum, degree))?;
+    let table = table_of(sides, degree as usize, num, den);
+    let left = Curve {
+        degree,
+        sum,
+        points: points_of(&table.left),
+    };
+    let right = Curve {
+        degree,
+        sum,
+        points: points_of(&table.right),
+    };
+    Ok(Rounded {
+        value: (left, right),
+        exact: table.exact,
+    })
 }
 
 // The load at num/den, which is the last rectangle of the same table and the first one of the right piece; refusals 1 to 5.
 pub fn evaluate(c: Curve, num: u32, den: u32) -> Evaluation
     ensures { result ≡ evaluated c num den }
 {
-    let mut left = [0; SIDES];
-    let mut right = [0; SIDES];
-    if !accepts(&mut right, c, num, den) {
-        let none = zero_rect();
-        return Evaluation {
-            refusal: call_refusal(c, num, den),
-            load: none,
-            ohms: ohms_of(none),
-            exact: DARK,
-        };
-    }
-    let n = c.degree as usize;
-    let exact = table_of(&mut left, &mut right, n, num, den);
-    let load = rect_at(&right, 0);
-    Evaluation {
-        refusal: NOT_REFUSED,
+    Evaluation::from(try_evaluate(c, num, den))
+}
+
+// The same as a result.
+#[tactic(auto, unfolding(crate::specs::Calls::evaluated, crate::specs::Calls::call_refusal))]
+pub fn try_evaluate(c: Curve, num: u32, den: u32) -> Result<Reading, Reason>
+    ensures { as_evaluation result ≡ evaluated c num den }
+{
+    let sides = sides_of(c)?;
+    check_parameter(num, den)?;
+    let table = table_of(sides, c.degree as usize, num, den);
+    let load = rect_at(&table.right, 0);
+    Ok(Reading {
         load,
         ohms: ohms_of(load),
-        exact,
-    }
+        exact: table.exact,
+    })
 }
 
 // The same curve with its degree raised by one, each control point rounded outward once; refusals 1 to 3, 6 and 17.
-#[tactic(auto, unfolding(crate::specs::Calls::elevated, crate::specs::Curve::elevated_of))]
 pub fn elevate(c: Curve) -> Elevation
     ensures { result ≡ elevated c }
 {
-    let refusal = elevation_refusal(c);
-    if refusal.number != 0 {
-        return Elevation {
-            refusal,
-            curve: zero_curve(),
-            exact: DARK,
-        };
-    }
+    Elevation::from(try_elevate(c))
+}
+
+// The same as a result.
+#[tactic(auto, using(crate::proofs::Accepted::accepted_ready), unfolding(crate::specs::Calls::elevated, crate::specs::Calls::elevation_refusal, crate::specs::Curve::elevated_of, crate::specs::Refusals::highest_refusal))]
+pub fn try_elevate(c: Curve) -> Result<Rounded<Curve>, Reason>
+    ensures { as_elevation result ≡ elevated c }
+{
+    check_curve(c)?;
+    check_raising(c.degree)?;
+    let sum = check_sum(elevated_sum(c.sum))?;
     let raised = elevated_points(c);
-    let points = raised.points;
-    let degree = c.degree + 1;
-    let sum = elevated_sum(c.sum) as u16;
-    Elevation {
-        refusal,
-        curve: Curve {
-            degree,
+    let points = raised.value;
+    Ok(Rounded {
+        value: Curve {
+            degree: c.degree + 1,
             sum,
             points,
         },
         exact: raised.exact,
-    }
+    })
 }
 
 // The least rectangle that holds every control point; refusals 1 to 3.
-#[tactic(auto, unfolding(crate::specs::Calls::bounded))]
 pub fn bounds(c: Curve) -> BoundingRect
     ensures { result ≡ bounded c }
 {
-    let refusal = curve_refusal(c);
-    if refusal.number != 0 {
-        return BoundingRect {
-            refusal,
-            rect: zero_rect(),
-        };
-    }
-    BoundingRect {
-        refusal,
-        rect: hull_of(c),
-    }
+    BoundingRect::from(try_bounds(c))
+}
+
+// The same as a result.
+#[tactic(auto, using(crate::proofs::Accepted::accepted_ready), unfolding(crate::specs::Calls::bounded))]
+pub fn try_bounds(c: Curve) -> Result<Rect, Reason>
+    ensures { as_bounding_rect result ≡ bounded c }
+{
+    check_curve(c)?;
+    Ok(hull_of(c))
 }

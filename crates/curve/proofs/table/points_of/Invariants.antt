@@ -1,13 +1,9 @@
--- The places up to k are filled. The measure is what is left of them.
-use mathlib.Core.Path.{◌≡◌}
-use Prim.Native.Nat.{◌-◌, ◌≤◌}
-use Rattle.curve.specs.Limits.{max_degree}
-use Rattle.curve.specs.Curve.{points_of}
+-- The places below k are filled.
+use Rattle.std.proofs.Common.{◌≡◌, ℕ, ◌<◌, length, get_or}
+use Rattle.curve.specs.Limits.{places}
+use Rattle.curve.specs.Rect.{zero_rect}
 use Rattle.curve.specs.Inner.{placed}
 use Rattle.curve.proofs.table.points_of.Given as goal
 
 abbrev pub invariant-loop-k : goal.invariant-loop-k
-invariant-loop-k l = record { within : l.k ≤ max_degree; filled : l.points ≡ points_of l.k (placed l.sides) }
-
-abbrev pub decreases-loop-k : goal.decreases-loop-k
-decreases-loop-k l = max_degree - l.k
+invariant-loop-k l = record { whole : length l.points ≡ places; filled : (i : ℕ) → i < l.k → get_or l.points i zero_rect ≡ placed l.sides i }

@@ -13,4 +13,4 @@ returns c =
       told p.reactance.low (omega arith),
       told p.reactance.high (omega arith),
     )
-    (stored c.args.sides.now c.args.k p c.requires.sides_len c.requires.k_lt_places)
+    (stored c.args.sides.now c.args.k p c.told-sides c.requires)
