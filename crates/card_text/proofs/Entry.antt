@@ -12,25 +12,20 @@ use lib.IntN.{ℤ, pos}
 use lib.ListN.{length, get_or, take, drop, take-append-drop, get_or-eq_default}
 use lib.Seq.{drop-cons, drop-drop, get_or-drop}
 use borrow.Author.Tests.{eq-eqb, eqb-true}
-use Rattle.columns.specs.declared.Column.{Column}
-use Rattle.columns.specs.declared.Column.TheVariants.{Number, Malformed}
+use Rattle.std.specs.Prelude.{Option, Some, None}
 use Rattle.columns.specs.Column.{column, read_at}
 use Rattle.columns.specs.Line.{newline, columns, line, line_length, all_fit}
 use Rattle.columns.proofs.Lines.{columns_long, columns-at}
 use Rattle.columns.proofs.Promises.{column_is_ten, column_reads, read_is_written}
-use Rattle.curve.specs.Refusals.{refusal, none}
+use Rattle.curve.specs.Refusals.{none}
 use Rattle.card_text.specs.Reading.{well_formed, number_of, number_at, column_refusal, line_end_refusal}
 use Rattle.card_text.proofs.Accepting.{unless-zero, unless-none}
 use Rattle.card_text.proofs.Stands.{Stands, stands_none, stands_both, stands_second}
 
 module _ (bytes : List ℕ) (at : ℕ) where
-  pub entry-number : (z : ℤ) → read_at bytes at ≡ Number z → (none ≡ column_refusal bytes at) × (z ≡ number_at bytes at)
+  pub entry-number : (z : ℤ) → read_at bytes at ≡ Some z → (none ≡ column_refusal bytes at) × (z ≡ number_at bytes at)
   unfolding column_refusal
   entry-number z e = rw e (refl, refl)
-
-  pub entry_malformed : read_at bytes at ≡ Malformed → (refusal 11 at ≡ column_refusal bytes at) × (pos 0 ≡ number_at bytes at)
-  unfolding column_refusal
-  entry_malformed e = rw e (refl, refl)
 
   -- an accepted column is its number's text
   pub entry_stands : (column_refusal bytes at).number ≡ 0 → Stands bytes at 10 (column (number_at bytes at))
@@ -43,9 +38,9 @@ module _ (bytes : List ℕ) (at : ℕ) where
         long = column_is_ten (number_at bytes at) it.fits;
       }
     where
-      number : (c : Column) → well_formed c ≡ true → c ≡ Number (number_of c)
-      number (Number z) e = refl
-      number Malformed e = absurd (false≢true e)
+      number : (c : Option ℤ) → well_formed c ≡ true → c ≡ Some (number_of c)
+      number (Some z) e = refl
+      number None e = absurd (false≢true e)
 
   -- the same of a line end
   pub end_stands : (line_end_refusal bytes at).number ≡ 0 → Stands bytes at 1 (newline ∷ [])

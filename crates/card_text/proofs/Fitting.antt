@@ -17,12 +17,12 @@ use Rattle.columns.proofs.Lines.{number_fits, fit_none, fit_more, line_long}
 use Rattle.columns.proofs.Put.{line_put}
 use Rattle.curve.specs.declared.Curve.{Curve}
 use Rattle.curve.specs.declared.Rect.{Rect}
-use Rattle.curve.specs.Limits.{max_degree}
+use Rattle.curve.specs.Limits.{max_degree, places}
 use Rattle.curve.specs.Rect.{resistance, reactance, sides}
 use Rattle.curve.specs.Curve.{point}
 use Rattle.curve.specs.Refusals.{Accepted}
 use Rattle.curve.specs.Inner.{Side, Held}
-use Rattle.curve.proofs.Accepted.{accepted-ready}
+use Rattle.curve.proofs.Accepted.{accepted_ready}
 use Rattle.card_text.specs.Card.{header, row, rows, card_of, header_length, row_length, card_length}
 
 pub side-fits-column : (z : ℤ) → Side z → fits_column z ≡ true
@@ -41,6 +41,9 @@ sides_fit {p} h =
 
 pub header-fits : (n : ℕ) → n ≤ max_degree → all_fit (pos n ∷ []) ≡ true
 header-fits n h = fit_more (pos n) [] (number_fits n (omega arith)) fit_none
+
+pub within_places : (c : Curve) → Accepted c → c.degree + 1 ≤ places
+within_places c ok = let few = (accepted_ready c ok).few in omega arith
 
 -- ---- what is put
 
@@ -71,6 +74,6 @@ rows_long (suc m) P h =
 pub card_long : (c : Curve) → Accepted c → length (card_of c) ≡ card_length c.degree
 unfolding card_of
 card_long c ok =
-    let ready = accepted-ready c ok in
+    let ready = accepted_ready c ok in
     length-append (header c.degree) (rows (c.degree + 1) (point c))
     ∙ rw (header_long c.degree ready.few, rows_long (c.degree + 1) (point c) (λ k h. row_long (ready.held k (omega arith))))

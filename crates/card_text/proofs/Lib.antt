@@ -3,12 +3,10 @@ pub mod Accepting
 pub mod UpTo
 pub mod Entry
 pub mod Fitting
-pub mod Header
 pub mod Limited
 pub mod LimitedCurve
 pub mod Places
 pub mod ReadingAnswer
 pub mod RowsRead
 pub mod Stands
-pub mod Widened
 pub mod WritingAnswer

@@ -1,22 +1,23 @@
 -- Numbers as the reader holds them: a number in range is kept, and any other stays out of range, so the refusals of a curve are the same.
 -- Assumes nothing.
-use mathlib.Core.Path.{◌≡◌, refl, sym, ap, ap₂, ◌∙◌, subst}
-use mathlib.Core.Bool.{Bool, true, false, ◌&&◌, cond}
-use Prim.Native.Nat.{suc}
-use lib.Dec.{T}
-use lib.IntN.{ℤ, pos, neg_ℤ}
-use lib.Signed.{le_z, le_z_yes}
+use mathlib.Core.Path.{◌≡◌, refl, sym, ap, ap₂, ◌∙◌}
+use mathlib.Core.Bool.{Bool, true, false, ◌&&◌, cond, false≢true}
+use Prim.Native.Nat.{suc, ◌^◌}
+use native.Mathlib.Omega.{arith}
+use lib.Dec.{T, leb}
+use lib.IntN.{ℤ, pos, negsuc}
+use mir.Syntax.{w32}
+use mir.Val.{SFits}
+use borrow.Author.Tests.{leb-true, ltb-true}
+use Rattle.std.proofs.lemmas.Bool.{lt-ltb}
+use Rattle.std.specs.Prelude.{Result, Ok, Err}
+use Rattle.std.specs.Result.{OkIff, result_unwrap_or}
 use Rattle.columns.proofs.Decode.{both}
 use Rattle.curve.specs.declared.Interval.{Interval}
 use Rattle.curve.specs.declared.Rect.{Rect}
 use Rattle.curve.specs.Limits.{max_side}
 use Rattle.curve.specs.Rect.{in_range, ends_in_range, sides_in_range}
-use Rattle.curve.specs.Inner.{Side}
-use Rattle.card_text.specs.Inner.{limited, limited_ends, limited_rect}
-
--- a test and what it says
-pub holds : {b : Bool} → b ≡ true → T b
-holds e = subst T (sym e) tt
+use Rattle.card_text.specs.Inner.{fits_side, limited, limited_ends, limited_rect}
 
 pub holds-true : (b : Bool) → T b → b ≡ true
 holds-true true t = refl
@@ -28,37 +29,56 @@ beyond : in_range (pos (suc max_side)) ≡ false
 unfolding in_range
 beyond = refl
 
+-- a side in range fits
+fits : (z : ℤ) → in_range z ≡ true → fits_side z ≡ true
+unfolding in_range fits_side
+fits (pos n) e =
+    let h = leb-true n max_side (both true (leb n max_side) e).1 in
+    lt-ltb n (2 ^ 31) (omega arith)
+fits (negsuc n) e =
+    let h = leb-true n 16777215 (both (leb n 16777215) true e).0 in
+    lt-ltb n (2 ^ 31) (omega arith)
+
 module _ (z : ℤ) where
-  pub tested_side : le_z (neg_ℤ (pos max_side)) z ≡ true → le_z z (pos max_side) ≡ true → Side z
-  tested_side low high = record { from = le_z_yes (holds low); to = le_z_yes (holds high) }
-
-  -- both tests of a range, and where one fails
-  pub within : le_z (neg_ℤ (pos max_side)) z ≡ true → le_z z (pos max_side) ≡ true → in_range z ≡ true
-  unfolding in_range
-  within low high = ap₂ ◌&&◌ low high
-
-  pub below : le_z (neg_ℤ (pos max_side)) z ≡ false → in_range z ≡ false
-  unfolding in_range
-  below low = ap (λ (b : Bool). b && le_z z (pos max_side)) low
-
-  pub above : le_z (neg_ℤ (pos max_side)) z ≡ true → le_z z (pos max_side) ≡ false → in_range z ≡ false
-  unfolding in_range
-  above low high = ap₂ ◌&&◌ low high
-
-  pub limited_in : in_range z ≡ true → limited z ≡ z
-  unfolding limited
-  limited_in e = ap (λ (b : Bool). cond b z (pos (suc max_side))) e
-
-  pub limited_out : in_range z ≡ false → limited z ≡ pos (suc max_side)
-  unfolding limited
-  limited_out e = ap (λ (b : Bool). cond b z (pos (suc max_side))) e
-
-  pub limited_range : in_range (limited z) ≡ in_range z
-  limited_range = by (in_range z) refl
+  outside : fits_side z ≡ false → in_range z ≡ false
+  outside e = by (in_range z) refl
     where
-      by : (b : Bool) → in_range z ≡ b → in_range (limited z) ≡ in_range z
-      by true e = ap in_range (limited_in e)
-      by false e = ap in_range (limited_out e) ∙ beyond ∙ sym e
+      by : (b : Bool) → in_range z ≡ b → in_range z ≡ false
+      by true f = absurd (false≢true (sym e ∙ fits z f))
+      by false f = f
+
+  limited_in : in_range z ≡ true → limited z ≡ z
+  unfolding limited
+  limited_in e = ap (λ (b : Bool). cond b z (pos (suc max_side))) (fits z e)
+
+  limited_range : in_range (limited z) ≡ in_range z
+  unfolding limited
+  limited_range = by (fits_side z) refl
+    where
+      by : (b : Bool) → fits_side z ≡ b → in_range (cond (fits_side z) z (pos (suc max_side))) ≡ in_range z
+      by true e = rw e
+      by false e = rw e (beyond ∙ sym (outside e))
+
+-- the test of 32 bits
+fits_bits : (z : ℤ) → SFits w32 z → fits_side z ≡ true
+unfolding fits_side
+fits_bits (pos n) h = lt-ltb n (2 ^ 31) h.sfits
+fits_bits (negsuc n) h = lt-ltb n (2 ^ 31) h.sfits
+
+bits_fit : (z : ℤ) → fits_side z ≡ true → SFits w32 z
+unfolding fits_side
+bits_fit (pos n) e = record { sfits = ltb-true n (2 ^ 31) e }
+bits_fit (negsuc n) e = record { sfits = ltb-true n (2 ^ 31) e }
+
+-- a number converted to 32 bits, or the first number above every side
+pub side_read : {E : Type 0} (z u : ℤ) (r : Result ℤ E) → OkIff r (SFits w32 z) z → u ≡ result_unwrap_or r (pos (suc max_side)) → u ≡ limited z
+unfolding limited
+side_read z u (Ok x) h e = e ∙ h.1 ∙ ap (λ (b : Bool). cond b z (pos (suc max_side))) (sym (fits_bits z h.0))
+side_read z u (Err x) h e = by (fits_side z) refl
+  where
+    by : (b : Bool) → fits_side z ≡ b → u ≡ cond b z (pos (suc max_side))
+    by true f = absurd (h (bits_fit z f))
+    by false f = e
 
 -- ---- a rectangle
 

@@ -10,13 +10,13 @@ use Rattle.curve.specs.declared.Curve.{Curve}
 use Rattle.curve.specs.declared.Rect.{Rect}
 use Rattle.curve.specs.declared.Refusal.{Refusal}
 use Rattle.curve.specs.Limits.{max_degree}
-use Rattle.curve.specs.Rect.{zero_rect, in_range, sides_in_range, sides_ordered}
+use Rattle.curve.specs.Rect.{zero_rect, sides_in_range, sides_ordered}
 use Rattle.curve.specs.Curve.{point, curve_of}
 use Rattle.curve.specs.Refusals.{refusal, ◌or_else◌, first_failing, degree_refusal, range_refusal, order_refusal, curve_refusal, Accepted}
 use Rattle.curve.proofs.Accepted.{accepted_facts, sides_range}
 use Rattle.curve.proofs.Places.{points_agree}
 use Rattle.curve.proofs.Points.{point_at, point-past}
-use Rattle.card_text.specs.Inner.{limited, limited_ends, limited_rect}
+use Rattle.card_text.specs.Inner.{fits_side, limited, limited_ends, limited_rect}
 use Rattle.card_text.proofs.Limited.{rect_range, rect_in, holds-true}
 
 -- a second test that differs only where the first fails is not reached there
@@ -43,7 +43,7 @@ module _ (n : ℕ) (P : ℕ → Rect) (few : n ≤ max_degree) where
   held = curve_of n 0 (λ k. limited_rect (P k))
 
   zero-limited : limited_rect zero_rect ≡ zero_rect
-  unfolding limited_rect limited_ends limited in_range
+  unfolding limited_rect limited_ends limited fits_side
   zero-limited = refl
 
   point-limited : (k : ℕ) → point held k ≡ limited_rect (point given k)

@@ -1,4 +1,5 @@
 pub mod Card
 pub mod Reading
 pub mod Writing
+pub mod Results
 pub mod Inner

@@ -1,8 +1,6 @@
 -- The answer of `read_card` for any bytes: the first refusal in document 01's order with the zero curve, or the curve that the numbers give.
 -- Assumes nothing.
-use Rattle.std.specs.Prelude.{ℕ, zero, suc, ◌+◌, Bool, true, false, cond, List, leb, eqb, ℤ, pos, negsuc, length, get_or}
-use Rattle.columns.specs.declared.Column.{Column}
-use Rattle.columns.specs.declared.Column.TheVariants.{Number, Malformed}
+use Rattle.std.specs.Prelude.{ℕ, zero, suc, ◌+◌, Bool, true, false, cond, Option, None, Some, List, leb, eqb, ℤ, pos, negsuc, length, get_or}
 use Rattle.columns.specs.Column.{read_at}
 use Rattle.columns.specs.Line.{newline}
 use Rattle.curve.specs.declared.Curve.{Curve}
@@ -18,13 +16,13 @@ use Rattle.card_text.specs.Card.{header_length, card_length, row_at}
 -- ---- the numbers
 
 -- whether a column is well-formed, and the number in it, 0 if it is not
-abbrev pub well_formed : Column → Bool
-well_formed (Number z) = true
-well_formed Malformed = false
+abbrev pub well_formed : Option ℤ → Bool
+well_formed (Some z) = true
+well_formed None = false
 
-abbrev pub number_of : Column → ℤ
-number_of (Number z) = z
-number_of Malformed = pos 0
+abbrev pub number_of : Option ℤ → ℤ
+number_of (Some z) = z
+number_of None = pos 0
 
 -- the number in the column at an offset
 abbrev pub number_at : List ℕ → ℕ → ℤ

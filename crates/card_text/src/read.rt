@@ -1,7 +1,10 @@
-// Reading a card's lines: each column as a number with its refusal.
-ghost use Rattle.std.specs.Prelude.{◌≡◌, ◌+◌, ◌≤◌, length};
+// Reading a card's lines: each column as a number, or the first refusal.
+// The bytes and an offset, which is the place of a refusal, go as two arguments, as `columns::read_column` takes them: with a struct of both each clause would name its fields.
+ghost use Rattle.std.specs.Prelude.{◌≡◌, ◌+◌, ◌≤◌, IfOk, length};
 ghost use Rattle.curve.specs.Limits.{max_degree};
 ghost use Rattle.curve.specs.Curve.{points_of};
+ghost use Rattle.curve.specs.Refusals.{degree_refusal};
+ghost use Rattle.curve.specs.Reason.{refusal_of};
 ghost use Rattle.card_text.specs.Card.{card_length, row_at};
 ghost use Rattle.card_text.specs.Reading.{
   number_at,
@@ -16,165 +19,91 @@ ghost use Rattle.card_text.specs.Reading.{
 };
 ghost use Rattle.card_text.specs.Inner.{limited, limited_ends, limited_rect};
 
-use crate::checks::{HEADER_LENGTH, ROW_LENGTH, line_end_refusal, size_refusal};
-use columns::{Column, read_column};
-use curve::{Interval, MAX_DEGREE, MAX_SIDE, MIN_SIDE, PLACES, Rect, Refusal, first_of, zero_rect};
+use crate::checks::{HEADER_LENGTH, ROW_LENGTH, card_length, check_line_end};
+use columns::read_column;
+use curve::{Interval, MAX_SIDE, PLACES, Reason, Rect, check_degree, ensure, zero_rect};
 
-// The number in a column, 0 if it is malformed.
-#[derive(Clone, Copy)]
-struct Entry {
-    refusal: Refusal,
-    value: i64,
-}
-
-// The first line.
-#[derive(Clone, Copy)]
-pub struct Header {
-    pub refusal: Refusal,
-    pub degree: u32,
-}
-
-// The two columns of an interval.
-#[derive(Clone, Copy)]
-struct Ends {
-    refusal: Refusal,
-    interval: Interval,
-}
-
-// A rectangle's line.
-#[derive(Clone, Copy)]
-struct Row {
-    refusal: Refusal,
-    rect: Rect,
-}
-
-// The rectangles' lines.
-#[derive(Clone, Copy)]
-pub struct Rows {
-    pub refusal: Refusal,
-    pub points: [Rect; PLACES],
-}
-
-// A number as a side: one beyond every side's range becomes the first number above it.
-fn side_of(value: i64) -> i32
-    ensures { result ≡ limited value }
+// The number in the column at an offset; refusal 11.
+#[tactic(auto, unfolding(crate::specs::Reading::column_refusal))]
+fn read_number(bytes: &[u8], at: usize) -> Result<i64, Reason>
+    ensures refusal { refusal_of result ≡ column_refusal bytes.now at }
+    ensures number { IfOk result (λ z. z ≡ number_at bytes.now at) }
 {
-    if MIN_SIDE as i64 <= value && value <= MAX_SIDE as i64 {
-        return value as i32;
-    }
-    MAX_SIDE + 1
+    read_column(bytes, at).ok_or(Reason::Malformed { offset: at })
 }
 
-// A number as a degree: one that is none becomes 0.
-fn degree_of(value: i64) -> u32
-    ensures { result ≡ degree_of value }
+// A number as a degree; refusal 1. One that no u32 holds is taken as 0, as `degree_of` (specs/Reading.antt) has it, so that one check refuses both.
+fn degree_of(number: i64) -> Result<u32, Reason>
+    ensures refusal { refusal_of result ≡ degree_refusal (degree_of number) }
+    ensures degree { IfOk result (λ n. n ≡ degree_of number) }
 {
-    if 0 <= value && value <= MAX_DEGREE as i64 {
-        return value as u32;
-    }
-    0
+    let degree = u32::try_from(number).unwrap_or(0);
+    check_degree(degree)?;
+    Ok(degree)
 }
 
-// The column at an offset.
-fn read_entry(bytes: &[u8], at: usize) -> Entry
-    ensures { (result.refusal ≡ column_refusal bytes.now at) × (result.value ≡ number_at bytes.now at) }
+// The degree on the first line, with the refusals that come before the other lines.
+#[tactic(auto, using(curve::proofs::Listed::first_is, curve::proofs::Listed::goes_on), unfolding(crate::specs::Reading::header_refusal, crate::specs::Reading::short_refusal, crate::specs::Reading::length_refusal, crate::specs::Reading::decoded))]
+pub fn read_header(bytes: &[u8]) -> Result<u32, Reason>
+    ensures refusal { refusal_of result ≡ header_refusal bytes.now }
+    ensures degree { IfOk result (λ n. n ≡ degree_of (number_at bytes.now 0)) }
 {
-    let column = read_column(bytes, at);
-    match column {
-        Column::Number(value) => Entry {
-            refusal: Refusal {
-                number: 0,
-                place: 0,
-            },
-            value,
-        },
-        Column::Malformed => Entry {
-            refusal: Refusal {
-                number: 11,
-                place: at,
-            },
-            value: 0,
-        },
-    }
+    let length = bytes.len();
+    ensure(HEADER_LENGTH <= length, Reason::CardLength { length })?;
+    let number = read_number(bytes, 0)?;
+    check_line_end(bytes, 10)?;
+    let degree = degree_of(number)?;
+    ensure(length == card_length(degree), Reason::CardLength { length })?;
+    Ok(degree)
 }
 
-// The first line, with the refusals that come before the other lines.
-pub fn read_header(bytes: &[u8]) -> Header
-    ensures { (result.refusal ≡ header_refusal bytes.now) × (result.degree ≡ degree_of (number_at bytes.now 0)) }
+// The side in the column at an offset. One too large for a side is taken as the first number above them: refusal 2 comes after 11 in every line (`card_refusal`), so it is not answered here.
+fn read_side(bytes: &[u8], at: usize) -> Result<i32, Reason>
+    ensures refusal { refusal_of result ≡ column_refusal bytes.now at }
+    ensures side { IfOk result (λ z. z ≡ limited (number_at bytes.now at)) }
 {
-    let entry = read_entry(bytes, 0);
-    let degree = degree_of(entry.value);
-    let size = bytes.len();
-    if size < HEADER_LENGTH {
-        return Header {
-            refusal: Refusal {
-                number: 10,
-                place: size,
-            },
-            degree,
-        };
-    }
-    let later = first_of(line_end_refusal(bytes, 10), size_refusal(degree, size));
-    Header {
-        refusal: first_of(entry.refusal, later),
-        degree,
-    }
+    let number = read_number(bytes, at)?;
+    Ok(i32::try_from(number).unwrap_or(MAX_SIDE + 1))
 }
 
 // The two columns of an interval that begin at an offset.
-fn read_ends(bytes: &[u8], at: usize) -> Ends
+#[tactic(auto, using(curve::proofs::Listed::first_is, curve::proofs::Listed::goes_on), unfolding(crate::specs::Reading::ends_refusal, crate::specs::Reading::interval_at, crate::specs::Inner::limited_ends))]
+fn read_interval(bytes: &[u8], at: usize) -> Result<Interval, Reason>
     requires { at + 20 ≤ length bytes.now }
-    ensures { (result.refusal ≡ ends_refusal bytes.now at) × (result.interval ≡ limited_ends (interval_at bytes.now at)) }
+    ensures refusal { refusal_of result ≡ ends_refusal bytes.now at }
+    ensures interval { IfOk result (λ i. i ≡ limited_ends (interval_at bytes.now at)) }
 {
-    let low = read_entry(bytes, at);
-    let high = read_entry(bytes, at + 10);
-    Ends {
-        refusal: first_of(low.refusal, high.refusal),
-        interval: Interval {
-            low: side_of(low.value),
-            high: side_of(high.value),
-        },
-    }
+    let low = read_side(bytes, at)?;
+    let high = read_side(bytes, at + 10)?;
+    Ok(Interval { low, high })
 }
 
 // The line of a rectangle that begins at an offset.
-fn read_row(bytes: &[u8], at: usize) -> Row
+#[tactic(auto, using(curve::proofs::Listed::first_is, curve::proofs::Listed::goes_on), unfolding(crate::specs::Reading::row_refusal, crate::specs::Reading::rect_at, crate::specs::Inner::limited_rect))]
+fn read_row(bytes: &[u8], at: usize) -> Result<Rect, Reason>
     requires { at + 41 ≤ length bytes.now }
-    ensures { (result.refusal ≡ row_refusal bytes.now at) × (result.rect ≡ limited_rect (rect_at bytes.now at)) }
+    ensures refusal { refusal_of result ≡ row_refusal bytes.now at }
+    ensures rect { IfOk result (λ p. p ≡ limited_rect (rect_at bytes.now at)) }
 {
-    let first = read_ends(bytes, at);
-    let second = read_ends(bytes, at + 20);
-    let later = first_of(second.refusal, line_end_refusal(bytes, at + 40));
-    let resistance = first.interval;
-    let reactance = second.interval;
-    Row {
-        refusal: first_of(first.refusal, later),
-        rect: Rect {
-            resistance,
-            reactance,
-        },
-    }
+    let resistance = read_interval(bytes, at)?;
+    let reactance = read_interval(bytes, at + 20)?;
+    check_line_end(bytes, at + 40)?;
+    Ok(Rect {
+        resistance,
+        reactance,
+    })
 }
 
 // The lines of rectangles 0 to n.
-pub fn read_rows(bytes: &[u8], degree: u32) -> Rows
+pub fn read_rows(bytes: &[u8], degree: u32) -> Result<[Rect; PLACES], Reason>
     requires degree_le_max_degree { degree ≤ max_degree }
     requires bytes_len { length bytes.now ≡ card_length degree }
-    ensures { (result.refusal ≡ rows_refusal bytes.now (degree + 1)) × (result.points ≡ points_of degree (λ k. limited_rect (rect_at bytes.now (row_at k)))) }
+    ensures refusal { refusal_of result ≡ rows_refusal bytes.now (degree + 1) }
+    ensures points { IfOk result (λ points. points ≡ points_of degree (λ k. limited_rect (rect_at bytes.now (row_at k)))) }
 {
-    let n = degree as usize;
-    let mut refusal = Refusal {
-        number: 0,
-        place: 0,
-    };
     let mut points = [zero_rect(); PLACES];
-    let mut k = 0;
-    while k <= n {
-        let row = read_row(bytes, HEADER_LENGTH + ROW_LENGTH * k);
-        refusal = first_of(refusal, row.refusal);
-        let rect = row.rect;
-        points[k] = rect;
-        k += 1;
+    for k in 0..=degree as usize {
+        points[k] = read_row(bytes, HEADER_LENGTH + ROW_LENGTH * k)?;
     }
-    Rows { refusal, points }
+    Ok(points)
 }

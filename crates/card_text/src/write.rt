@@ -10,29 +10,26 @@ use crate::checks::{HEADER_LENGTH, ROW_LENGTH};
 use columns::put_line;
 use curve::{Curve, Rect};
 
-// A rectangle's four sides in their order, for whoever writes its line.
+// A rectangle's four sides in their order, for whoever writes its line: columns take 64 bits, and the calls from C 32; one for both would need a law of its type in the clause.
 pub fn sides(p: Rect) -> [i64; 4]
     ensures { result ≡ sides p }
 {
     [
-        p.resistance.low as i64,
-        p.resistance.high as i64,
-        p.reactance.low as i64,
-        p.reactance.high as i64,
+        i64::from(p.resistance.low),
+        i64::from(p.resistance.high),
+        i64::from(p.reactance.low),
+        i64::from(p.reactance.high),
     ]
 }
 
-// Writes the lines of rectangles 0 to n.
+// Writes the lines of rectangles 0 to n, each at the offset that `put_line` takes.
+#[tactic(auto, using(crate::proofs::Fitting::within_places))]
 pub fn write_rows(out: &mut [u8], c: Curve)
     requires accepted { Accepted c }
     requires degree_in_bounds { card_length c.degree ≤ length out.old }
     ensures { out.new ≡ placed out.old header_length (rows (c.degree + 1) (point c)) }
 {
-    let n = c.degree as usize;
-    let mut k = 0;
-    while k <= n {
-        let p = c.points[k];
-        put_line(out, HEADER_LENGTH + ROW_LENGTH * k, &sides(p));
-        k += 1;
+    for (k, p) in c.points[..c.degree as usize + 1].iter().enumerate() {
+        put_line(out, HEADER_LENGTH + ROW_LENGTH * k, &sides(*p));
     }
 }

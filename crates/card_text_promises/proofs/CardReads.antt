@@ -14,7 +14,7 @@ use Rattle.curve.specs.declared.Refusal.{Refusal}
 use Rattle.curve.specs.Limits.{max_degree}
 use Rattle.curve.specs.Curve.{point, curve_of, SameButSum}
 use Rattle.curve.specs.Refusals.{none, unless, curve_refusal, degree_refusal, Accepted}
-use Rattle.curve.proofs.Accepted.{accepted-ready}
+use Rattle.curve.proofs.Accepted.{accepted_ready}
 use Rattle.curve_promises.proofs.PastUnread.{refusals}
 use Rattle.curve.proofs.Places.{points_agree}
 use Rattle.curve.proofs.Points.{point_at}
@@ -39,7 +39,7 @@ module _ (c : Curve) (ok : Accepted c) where
   card = card_of c
 
   few : n ≤ max_degree
-  few = (accepted-ready c ok).few
+  few = (accepted_ready c ok).few
 
   first : Stands card 0 header_length (header n)
   unfolding card_of
@@ -49,11 +49,11 @@ module _ (c : Curve) (ok : Accepted c) where
   unfolding card_of
   others =
       stands_second (header n) (rows (n + 1) (point c)) (stands_whole card) (header_long n few)
-      (rows_long (n + 1) (point c) (λ k h. row_long ((accepted-ready c ok).held k (omega arith))))
+      (rows_long (n + 1) (point c) (λ k h. row_long ((accepted_ready c ok).held k (omega arith))))
 
   line : (k : ℕ) → k ≤ n → (row_refusal card (row_at k) ≡ none) × (rect_at card (row_at k) ≡ point c k)
   line k h =
-      let held = (accepted-ready c ok).held in
+      let held = (accepted_ready c ok).held in
       row_read card (row_at k) (point c k) (held k h) (each_row card (point c) (n + 1) (λ i l. held i (omega arith)) others k (omega arith))
 
   degree : (decoded card).degree ≡ n
@@ -70,7 +70,7 @@ module _ (c : Curve) (ok : Accepted c) where
   none-degree : degree_refusal (decoded card).degree ≡ none
   none-degree =
       ap (λ (m : ℕ). unless (leb 1 m && leb m max_degree) 1) degree
-      ∙ unless-none (leb 1 n && leb n max_degree) 1 0 (ap₂ ◌&&◌ (le-leb 1 n (accepted-ready c ok).some) (le-leb n max_degree few))
+      ∙ unless-none (leb 1 n && leb n max_degree) 1 0 (ap₂ ◌&&◌ (le-leb 1 n (accepted_ready c ok).some) (le-leb n max_degree few))
 
   none-length : length_refusal (decoded card).degree (length card) ≡ none
   unfolding length_refusal

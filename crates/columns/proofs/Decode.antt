@@ -12,8 +12,9 @@ use lib.ListN.{length, get_or, drop, replicate, length-append, length-replicate}
 use lib.Seq.{drop-cons}
 use lib.Dec.{eqb}
 use borrow.Author.Tests.{le-leb, eqb-true, eq-eqb, ne_eqb}
+use Rattle.std.specs.List.{list_any}
 use Rattle.columns.specs.Column.{digits_before, digits, text, column, fits_column, value_after, has_minus, signed, decode, same_bytes, read_bytes}
-use Rattle.columns.specs.declared.Column.TheVariants.{Number, Malformed}
+use Rattle.std.specs.Prelude.{Some, None}
 use Rattle.columns.proofs.Digits.{fits_width, text-short}
 
 -- digits are read back as their number
@@ -63,9 +64,11 @@ pub next-value : (m : ℕ) (bytes : List ℕ) (i : ℕ) → i < length bytes →
 unfolding value_after
 next-value m bytes i h = rw (add-one, drop-cons bytes i 0)
 
-pub next_minus : (bytes : List ℕ) (i : ℕ) → i < length bytes → has_minus (drop i bytes) ≡ (eqb (get_or bytes i 0) 45 || has_minus (drop (i + 1) bytes))
+-- the test of each byte
+pub any_minus : (bytes : List ℕ) → list_any (λ b. eqb b 45) bytes ≡ has_minus bytes
 unfolding has_minus
-next_minus bytes i h = rw (add-one, drop-cons bytes i 0)
+any_minus [] = refl
+any_minus (b ∷ bytes) = ap (λ (t : Bool). eqb b 45 || t) (any_minus bytes)
 
 decode-text : (z : ℤ) → decode (text z) ≡ z
 unfolding decode text signed has_minus value_after
@@ -116,15 +119,15 @@ fits_of_ten z h =
     let w : 10 - length (text z) + length (text z) ≤ 10 = simp (length-append, length-replicate) at h in
     fits_width z ∙ le-leb (length (text z)) 10 (omega arith)
 
-pub read-column_bytes : (z : ℤ) → read_bytes (column z) ≡ Number z
+pub read-column_bytes : (z : ℤ) → read_bytes (column z) ≡ Some z
 unfolding read_bytes
 read-column_bytes z = rw (decode-column z, same_refl (column z))
 
 -- the bytes of an accepted column are the number's
-pub read_number : (bytes : List ℕ) (z : ℤ) → read_bytes bytes ≡ Number z → bytes ≡ column z
+pub read_number : (bytes : List ℕ) (z : ℤ) → read_bytes bytes ≡ Some z → bytes ≡ column z
 unfolding read_bytes
 read_number bytes z = by (same_bytes (column (decode bytes)) bytes) refl
   where
-    by : (t : Bool) → same_bytes (column (decode bytes)) bytes ≡ t → cond t (Number (decode bytes)) Malformed ≡ Number z → bytes ≡ column z
+    by : (t : Bool) → same_bytes (column (decode bytes)) bytes ≡ t → cond t (Some (decode bytes)) None ≡ Some z → bytes ≡ column z
     by true e h = let d : decode bytes ≡ z = cc in sym (same_eq (column (decode bytes)) bytes e) ∙ ap column d
     by false e h = let o : ◌≡◌ {A = ℕ} 0 1 = cc in absurd (omega arith)

@@ -6,5 +6,4 @@ pub mod Offset
 pub mod Placed
 pub mod Put
 pub mod Promises
-pub mod Signed
 mod Filling

@@ -1,15 +1,16 @@
 -- Laws of lines of numbers: numbers that fit, columns one behind the other, how long they are, and how they follow each other in a buffer.
 -- Assumes nothing.
 use mathlib.Core.Path.{◌≡◌, refl, sym, ap, ap₂, ◌∙◌}
-use mathlib.Core.Bool.{true, ◌&&◌}
+use mathlib.Core.Bool.{Bool, true, ◌&&◌}
 use mathlib.Core.List.{List, [], ◌∷◌, ◌++◌, append_assoc, append-nil}
 use Prim.Native.Nat.{ℕ, zero, suc, ◌+◌, ◌*◌, ◌≤◌, ◌<◌}
 use native.Mathlib.Numerals.{add-one}
 use native.Mathlib.Omega.{arith}
 use lib.IntN.{ℤ, pos}
 use lib.ListN.{length, get_or, take, drop, length-append, length-take}
-use lib.Seq.{take-suc, take_at, drop_at, drop-drop, drop-cons}
+use lib.Seq.{take-suc, take_at, drop_at, drop-drop}
 use borrow.Author.Tests.{le-leb}
+use Rattle.std.specs.List.{list_all}
 use Rattle.columns.specs.Column.{column, fits_column}
 use Rattle.columns.specs.Line.{placed, newline, columns, line, line_length, all_fit}
 use Rattle.columns.proofs.Decode.{both, column_ten}
@@ -43,10 +44,11 @@ fit_at [] k f h = absurd (omega arith)
 fit_at (z ∷ zs) zero f h = (fit_split z zs f).0
 fit_at (z ∷ zs) (suc k) f h = fit_at zs k (fit_split z zs f).1 (omega arith)
 
--- one number tested
-pub next_fits : (zs : List ℤ) (k : ℕ) → k < length zs → all_fit (drop k zs) ≡ (fits_column (get_or zs k (pos 0)) && all_fit (drop (k + 1) zs))
+-- the test of each number
+pub each_fits : (zs : List ℤ) → list_all fits_column zs ≡ all_fit zs
 unfolding all_fit
-next_fits zs k h = rw (add-one, drop-cons zs k (pos 0))
+each_fits [] = refl
+each_fits (z ∷ zs) = ap (λ (t : Bool). fits_column z && t) (each_fits zs)
 
 -- ---- columns
 

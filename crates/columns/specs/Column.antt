@@ -1,8 +1,6 @@
 -- A column: the decimal text of a whole number, set to the right in ten bytes, and what stands at an offset of some bytes.
 -- Assumes nothing.
-use Rattle.std.specs.Prelude.{ℕ, zero, suc, ◌+◌, ◌-◌, ◌*◌, ◌/◌, ◌%◌, Bool, true, false, cond, ◌&&◌, ◌||◌, List, [], ◌∷◌, ◌++◌, ℤ, pos, negsuc, neg_ℤ, length, take, drop, replicate, leb, eqb}
-use Rattle.columns.specs.declared.Column.{Column}
-use Rattle.columns.specs.declared.Column.TheVariants.{Number, Malformed}
+use Rattle.std.specs.Prelude.{ℕ, zero, suc, ◌+◌, ◌-◌, ◌*◌, ◌/◌, ◌%◌, Bool, true, false, cond, ◌&&◌, ◌||◌, Option, None, Some, List, [], ◌∷◌, ◌++◌, ℤ, pos, negsuc, neg_ℤ, length, take, drop, replicate, leb, eqb}
 
 -- the digits of n in front of some bytes, none for 0, and at most `limit` of them
 unfoldable pub digits_before : ℕ → ℕ → List ℕ → List ℕ
@@ -54,10 +52,10 @@ same_bytes [] (y ∷ ys) = false
 same_bytes (x ∷ xs) [] = false
 same_bytes (x ∷ xs) (y ∷ ys) = eqb x y && same_bytes xs ys
 
--- the number that some bytes show if they are exactly its column
-unfoldable pub read_bytes : List ℕ → Column
-read_bytes bytes = cond (same_bytes (column (decode bytes)) bytes) (Number (decode bytes)) Malformed
+-- the number that some bytes show if they are exactly its column; none where they are malformed
+unfoldable pub read_bytes : List ℕ → Option ℤ
+read_bytes bytes = cond (same_bytes (column (decode bytes)) bytes) (Some (decode bytes)) None
 
 -- what the ten bytes at an offset are; fewer than ten are malformed, since no column is shorter
-unfoldable pub read_at : List ℕ → ℕ → Column
+unfoldable pub read_at : List ℕ → ℕ → Option ℤ
 read_at bytes at = read_bytes (take 10 (drop at bytes))

@@ -1,7 +1,6 @@
 -- The promises about columns that a caller relies on, each as a type; their proofs are in proofs/Promises.antt.
 -- Assumes nothing.
-use Rattle.std.specs.Prelude.{ℕ, ◌+◌, ◌*◌, ◌≤◌, ◌<◌, true, List, ◌++◌, ◌≡◌, leb, ℤ, pos, length, get_or, take, drop}
-use Rattle.columns.specs.declared.Column.TheVariants.{Number}
+use Rattle.std.specs.Prelude.{ℕ, ◌+◌, ◌*◌, ◌≤◌, ◌<◌, true, Some, List, ◌++◌, ◌≡◌, leb, ℤ, pos, length, get_or, take, drop}
 use Rattle.columns.specs.Column.{text, column, fits_column, read_at}
 use Rattle.columns.specs.Line.{placed, columns, line, line_length, all_fit}
 
@@ -15,7 +14,7 @@ ColumnIsTen = (z : ℤ) → fits_column z ≡ true → length (column z) ≡ 10
 
 -- ten bytes that are a number's column are read as that number
 abbrev pub ColumnReads : Type 0
-ColumnReads = (bytes : List ℕ) (at : ℕ) (z : ℤ) → take 10 (drop at bytes) ≡ column z → read_at bytes at ≡ Number z
+ColumnReads = (bytes : List ℕ) (at : ℕ) (z : ℤ) → take 10 (drop at bytes) ≡ column z → read_at bytes at ≡ Some z
 
 -- a line of numbers that fit has ten bytes for each and the line end
 abbrev pub LineIsLong : Type 0
@@ -25,7 +24,7 @@ LineIsLong = (zs : List ℤ) → all_fit zs ≡ true → length (line zs) ≡ li
 abbrev pub WrittenReads : Type 0
 WrittenReads =
     (bytes : List ℕ) (at : ℕ) (zs : List ℤ) (more : List ℕ) (k : ℕ) → all_fit zs ≡ true → at ≤ length bytes → k < length zs →
-    read_at (placed bytes at (columns zs ++ more)) (at + 10 * k) ≡ Number (get_or zs k (pos 0))
+    read_at (placed bytes at (columns zs ++ more)) (at + 10 * k) ≡ Some (get_or zs k (pos 0))
 
 -- a column that is read as z: z fits, the ten bytes are there and are exactly its column, and to put it there again changes nothing
 pub record Accepted (bytes : List ℕ) (at : ℕ) (z : ℤ) : Type 0 where
@@ -35,7 +34,7 @@ pub record Accepted (bytes : List ℕ) (at : ℕ) (z : ℤ) : Type 0 where
   pub again : placed bytes at (column z) ≡ bytes
 
 abbrev pub ReadIsWritten : Type 0
-ReadIsWritten = (bytes : List ℕ) (at : ℕ) (z : ℤ) → read_at bytes at ≡ Number z → Accepted bytes at z
+ReadIsWritten = (bytes : List ℕ) (at : ℕ) (z : ℤ) → read_at bytes at ≡ Some z → Accepted bytes at z
 
 -- putting a text where there is room keeps the length, and each byte before and behind the text
 pub record Kept (bytes : List ℕ) (at : ℕ) (text : List ℕ) : Type 0 where

@@ -7,15 +7,8 @@ mod read;
 mod text;
 mod write;
 
-// What stands in a column.
-#[derive(Clone, Copy)]
-pub enum Column {
-    Number(i64),
-    Malformed,
-}
-
 // The byte that ends a line.
-pub const NEWLINE: u8 = 10;
+pub const NEWLINE: u8 = b'\n';
 
 // Reading one column.
 pub use read::read_column;

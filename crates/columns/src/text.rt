@@ -1,40 +1,13 @@
-// A number's column as bytes, and the two tests that come before it is read or written: there is room, and the number fits.
-ghost use Rattle.std.specs.Prelude.{◌≡◌, true, ◌+◌, ◌*◌, ◌%◌, nat_abs, leb};
+// A number's column as bytes, and whether it fits one. It is made by hand, as it is read: the clauses are `column` and `decode` (specs/Column.antt), which no width of std's states.
+ghost use Rattle.std.specs.Prelude.{◌≡◌, true, ◌+◌, ◌%◌};
 ghost use Rattle.columns.specs.Column.{column, fits_column};
 
-// Whether so many columns and then so many bytes stand at an offset of a slice of this length.
-pub fn has_room(length: usize, at: usize, count: usize, more: usize) -> bool
-    ensures { result ≡ leb (at + (10 * count + more)) length }
-{
-    if length / 10 < count {
-        return false;
-    }
-    let left = length - 10 * count;
-    if left < more {
-        return false;
-    }
-    at <= left - more
-}
-
 // Whether a number's text is at most ten bytes long.
+#[tactic(auto, unfolding(crate::specs::Column::fits_column))]
 pub fn fits_column(value: i64) -> bool
     ensures { result ≡ fits_column value }
 {
-    if value < 0 {
-        return -1_000_000_000 < value;
-    }
-    value < 10_000_000_000
-}
-
-// A number without its sign.
-fn magnitude(value: i64) -> u64
-    requires { fits_column value ≡ true }
-    ensures { result ≡ nat_abs value }
-{
-    if value < 0 {
-        return (0 - value) as u64;
-    }
-    value as u64
+    (-999_999_999..=9_999_999_999).contains(&value)
 }
 
 // The byte of a number's last digit.
@@ -45,12 +18,13 @@ fn last_digit(m: u64) -> u8
 }
 
 // The ten bytes of a number's column: the digits from the last one back, then the minus.
+// The loop ends with the digits, and the minus goes where it ended, so the place is counted by hand.
 pub fn column_of(value: i64) -> [u8; 10]
     requires { fits_column value ≡ true }
     ensures { result ≡ column value }
 {
     let negative = value < 0;
-    let m = magnitude(value);
+    let m = value.unsigned_abs();
     let mut b = [b' '; 10];
     b[9] = last_digit(m);
     let mut first: usize = 9;
@@ -58,7 +32,7 @@ pub fn column_of(value: i64) -> [u8; 10]
     while 0 < rest {
         first -= 1;
         b[first] = last_digit(rest);
-        rest = rest / 10;
+        rest /= 10;
     }
     if negative {
         b[first - 1] = b'-';

@@ -1,21 +1,27 @@
--- `degree_of` meets its contract: the two tests pick the definition's cases.
-use Rattle.curve.specs.Limits.{max_degree}
-use mir.Syntax.{w64}
+-- `degree_of` meets its contract: the number is refused as the degree that it gives, and is that degree where it is accepted.
+use Rattle.std.proofs.Common.{rules, ◌≡◌, ℤ, w64, ap, ◌∙◌}
 use mir.ValLaws.{to_z-of_z}
-use Rattle.card_text.proofs.UpTo.{number_in, number_below, number_above}
+use Rattle.curve.specs.Refusals.{degree_refusal}
+use Rattle.curve.specs.Reason.{listed}
+use Rattle.card_text.specs.Reading.{degree_of}
+use Rattle.card_text.proofs.UpTo.{degree_read, degree_kept}
 use Rattle.card_text.proofs.read.degree_of.Goals as goal
-use Rattle.card_text.proofs.read.degree_of.Goals.{else-value-ge0-via-then-value-ge0+else-value, else-value-ge0-via-else-value-ge0}
 
-pub returns-then-value : goal.returns-then-value
-returns-then-value c =
-    let e = to_z-of_z w64 c.args.value c.ranges.value in
-    rw e (number_in max_degree 0 c.args.value (rw e at c.if-value-ge0.true) (rw e at c.if-value.true))
+pub returns-in_err-check_degree-clause-refusal : goal.returns-in_err-check_degree-clause-refusal
+returns-in_err-check_degree-clause-refusal c =
+    let same = to_z-of_z w64 c.args.number c.ranges.number in
+    let read = degree_read _ c.unwrap_or-degree.result c.try_from.result c.try_from.ensures c.unwrap_or-degree.ensures in
+    let told : listed c.in_err-check_degree.field-0.0 ≡ degree_refusal (degree_of c.args.number) = c.in_err-check_degree.ensures ∙ read ∙ ap (λ (z : ℤ). degree_refusal (degree_of z)) same in
+    search rules
 
-pub returns : goal.returns
-returns c =
-    let z = c.args.value in
-    let e = to_z-of_z w64 z c.ranges.value in
-    elim c.else-value-ge0.branch [
-      | else-value-ge0-via-then-value-ge0+else-value w ↦ number_above max_degree 0 z (rw e at w.if-value-ge0.true) (rw e at w.if-value.false)
-      | else-value-ge0-via-else-value-ge0 w ↦ number_below max_degree 0 z (rw e at w.if-value-ge0.false)
-    ]
+pub returns-clause-refusal : goal.returns-clause-refusal
+returns-clause-refusal c =
+    let same = to_z-of_z w64 c.args.number c.ranges.number in
+    c.in_ok-check_degree.ensures
+    ∙ degree_read _ c.unwrap_or-degree.result c.try_from.result c.try_from.ensures c.unwrap_or-degree.ensures
+    ∙ ap (λ (z : ℤ). degree_refusal (degree_of z)) same
+
+pub returns-clause-degree : goal.returns-clause-degree
+returns-clause-degree c =
+    let same = to_z-of_z w64 c.args.number c.ranges.number in
+    degree_kept _ c.unwrap_or-degree.result c.try_from.result c.try_from.ensures c.unwrap_or-degree.ensures c.in_ok-check_degree.ensures ∙ ap degree_of same

@@ -1,38 +1,39 @@
--- `read_rows` meets its contract: each turn reads the line of one more rectangle.
-use Rattle.std.proofs.Common.{◌≡◌, ℕ, ◌+◌, sym, ap, ◌∙◌, subst, arith}
-use mathlib.Core.Path.{subst₂}
-use lib.ListN.{replicate, set}
+-- `read_rows` meets its contract: each turn reads the line of one more rectangle, or stops at its refusal.
+use Rattle.std.proofs.Common.{rules, ◌≡◌, ℕ, ◌+◌, sym, ap, ◌∙◌, subst, arith}
+use lib.ListN.{replicate}
 use Rattle.curve.specs.declared.Rect.{Rect}
-use Rattle.curve.specs.declared.Refusal.{Refusal}
 use Rattle.curve.specs.Limits.{places}
-use Rattle.curve.specs.Refusals.{none, ◌or_else◌}
+use Rattle.curve.specs.Reason.{listed}
 use Rattle.card_text.specs.Reading.{rows_refusal}
-use Rattle.card_text.proofs.RowsRead.{RowsRead, rows_none, rows_next, rows_points}
+use Rattle.card_text.proofs.RowsRead.{RowsRead, rows_none, rows_next, rows_stop, rows_points}
 use Rattle.card_text.proofs.read.read_rows.Goals as goal
 
 pub loop-k-init : goal.loop-k-init
-loop-k-init c =
-    let bytes = c.args.bytes.now in
-    (omega arith, subst (λ (p : Rect). RowsRead bytes 0 none (replicate places p)) (sym c.zero_rect-points.ensures) (rows_none bytes))
+loop-k-init c = subst (λ (p : Rect). RowsRead c.args.bytes.now 0 (replicate places p)) (sym c.zero_rect-points.ensures) (rows_none c.args.bytes.now)
 
 pub loop-k-preserved : goal.loop-k-preserved
 loop-k-preserved c =
-    let row = c.read_row-row in
+    let l = c.loop-k in
+    let row = c.in_ok-points.ensures in
+    rows_next c.args.bytes.now l.k l.points l.invariant c.in_ok-points.field-0 (omega arith) row.refusal row.rect
+
+pub returns-in_err-points-clause-refusal : goal.returns-in_err-points-clause-refusal
+returns-in_err-points-clause-refusal c =
     let l = c.loop-k in
     let bytes = c.args.bytes.now in
-    let next = rows_next bytes l.k l.refusal l.points l.invariant.1 (omega arith) in (
-      omega arith,
-      subst₂ (λ (r : Refusal) (p : Rect). RowsRead bytes (l.k + 1) r (set l.points l.k p))
-          (sym (c.first_of-refusal.ensures ∙ ap (λ (r : Refusal). l.refusal or_else r) row.ensures.0))
-          (sym row.ensures.1)
-          next,
-    )
+    let told : listed c.in_err-points.field-0.0 ≡ rows_refusal bytes (c.args.degree + 1) =
+    rows_stop bytes l.k l.points l.invariant c.in_err-points.field-0.0 c.args.degree (omega arith) c.in_err-points.ensures.refusal in
+    search rules
 
-pub returns : goal.returns
-returns c =
+pub returns-in_ok-points-clause-refusal : goal.returns-in_ok-points-clause-refusal
+returns-in_ok-points-clause-refusal c =
     let l = c.loop-k in
-    let a = c.args in
-    let done : l.k ≡ a.degree + 1 = omega arith in (
-      l.invariant.1.refused ∙ ap (λ (m : ℕ). rows_refusal a.bytes.now m) done,
-      rows_points a.bytes.now l.k l.refusal l.points l.invariant.1 a.degree done,
-    )
+    let row = c.in_ok-points.ensures in
+    let done : l.k + 1 ≡ c.args.degree + 1 = omega arith in
+    (rows_next c.args.bytes.now l.k l.points l.invariant c.in_ok-points.field-0 (omega arith) row.refusal row.rect).accepted ∙ ap (λ (m : ℕ). rows_refusal c.args.bytes.now m) done
+
+pub returns-in_ok-points-clause-points : goal.returns-in_ok-points-clause-points
+returns-in_ok-points-clause-points c =
+    let l = c.loop-k in
+    let row = c.in_ok-points.ensures in
+    rows_points c.args.bytes.now (l.k + 1) _ (rows_next c.args.bytes.now l.k l.points l.invariant c.in_ok-points.field-0 (omega arith) row.refusal row.rect) c.args.degree (omega arith)

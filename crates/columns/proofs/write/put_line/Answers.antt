@@ -4,12 +4,16 @@ use borrow.Author.Tests.{leb-true}
 use Rattle.columns.specs.Line.{line_length}
 use Rattle.columns.proofs.Put.{no_room, no_fit, line_put, line-ended}
 use Rattle.columns.proofs.write.put_line.Goals as goal
+use Rattle.columns.proofs.write.put_line.Goals.{then-not-has_room-via-then-not-has_room, then-not-has_room-via-else-not-has_room+then-not-all_fit}
 
 pub returns-then-not-has_room : goal.returns-then-not-has_room
-returns-then-not-has_room c = no_room c.args.out.now c.args.at c.args.numbers.now (sym c.has_room.ensures ∙ c.if-not-has_room.true)
-
-pub returns-then-not-all_fit : goal.returns-then-not-all_fit
-returns-then-not-all_fit c = no_fit c.args.out.now c.args.at c.args.numbers.now (sym c.all_fit.ensures ∙ c.if-not-all_fit.true)
+returns-then-not-has_room c =
+    let out = c.args.out.now in
+    let numbers = c.args.numbers.now in
+    elim c.then-not-has_room.branch [
+      | then-not-has_room-via-then-not-has_room w ↦ no_room out c.args.at numbers (sym c.has_room.ensures ∙ w.if-not-has_room.true)
+      | then-not-has_room-via-else-not-has_room+then-not-all_fit w ↦ no_fit out c.args.at numbers (sym w.all_fit.ensures ∙ w.if-not-all_fit.true)
+    ]
 
 pub returns : goal.returns
 returns c =
