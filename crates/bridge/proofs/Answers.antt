@@ -1,19 +1,22 @@
 -- The answers of `enclose` by what is refused: its numbers, its sides, or nothing.
 -- Assumes nothing.
-use mathlib.Core.Path.{◌≡◌, refl, sym, ap, ◌∙◌}
+use Rattle.std.proofs.Common.{◌≡◌, refl, sym, ap, ap₂, ◌∙◌, Bool, cond, Option, Some, Result, Ok, Err, IsErrAnd}
 use borrow.Author.Tests.{eq-eqb, ne_eqb}
 use lib.Dec.{T}
 use lib.Ieee.{Float}
 use Rattle.curve.specs.declared.Rect.{Rect}
 use Rattle.curve.specs.declared.Refusal.{Refusal}
 use Rattle.curve.specs.Rect.{ends_in_range}
-use Rattle.curve.specs.Refusals.{unless_at}
+use Rattle.curve.specs.declared.reason.Reason.{Reason}
+use Rattle.curve.specs.Reason.{listed}
+use Rattle.curve.specs.Refusals.{none, ◌or_else◌, unless_at}
 use Rattle.curve.proofs.Tests.{or_split, unless_holds}
-use Rattle.curve.proofs.Refused.{or_first, or_second}
 use Rattle.curve.proofs.Answers.{in_both}
 use Rattle.bridge.specs.declared.Measurement.TheVariants.{LoadWithSpread}
 use Rattle.bridge.specs.declared.Found.TheVariants.{Refused, Rectangle}
 use Rattle.bridge.specs.declared.BridgeAnswer.{BridgeAnswer}
+use Rattle.bridge.specs.Results.{as_bridge_answer}
+use Rattle.curve.proofs.Listed.{listed_refuses, listed_first}
 use Rattle.bridge.specs.Value.{is_load, is_spread}
 use Rattle.bridge.specs.Bridge.{spread_rect, load_refusal, number_refusal, side_refusal, spread_refusal, answered, enclosed}
 
@@ -37,24 +40,29 @@ answered-refusal r p = in_both (λ r. gives r p) refused r (λ a. a.refusal) r r
 -- ---- a load with a spread
 
 module _ (r x spread : Float) where
-  pub numbers_refused : ((number_refusal r x spread).number ≡ 0 → ⊥) → refused (number_refusal r x spread) ≡ enclosed (LoadWithSpread r x spread)
-  unfolding enclosed spread_refusal
-  numbers_refused h =
-      let first = or_first (number_refusal r x spread) (side_refusal (spread_rect r x spread)) h in
-      sym (answered-refused (number_refusal r x spread) (spread_rect r x spread) h) ∙ ap (λ (a : Refusal). answered a (spread_rect r x spread)) first
+  -- its sides are looked at where its numbers pass
+  pub sides_left : none ≡ number_refusal r x spread → side_refusal (spread_rect r x spread) ≡ spread_refusal r x spread
+  unfolding spread_refusal
+  sides_left passed = ap (λ (a : Refusal). a or_else side_refusal (spread_rect r x spread)) passed
 
-  module _ (passed : (number_refusal r x spread).number ≡ 0) where
-    sides-left : side_refusal (spread_rect r x spread) ≡ spread_refusal r x spread
-    unfolding spread_refusal
-    sides-left = or_second (number_refusal r x spread) (side_refusal (spread_rect r x spread)) passed
+  pub numbers_first : (e : Reason) → listed e ≡ number_refusal r x spread → listed e ≡ spread_refusal r x spread
+  unfolding spread_refusal
+  numbers_first e is =
+      sym (listed_first e (side_refusal (spread_rect r x spread))) ∙ ap (λ (a : Refusal). a or_else side_refusal (spread_rect r x spread)) is
 
-    pub sides-refused : ((side_refusal (spread_rect r x spread)).number ≡ 0 → ⊥) → refused (side_refusal (spread_rect r x spread)) ≡ enclosed (LoadWithSpread r x spread)
-    unfolding enclosed
-    sides-refused h = sym (answered-refused (side_refusal (spread_rect r x spread)) (spread_rect r x spread) h) ∙ ap (λ (a : Refusal). answered a (spread_rect r x spread)) sides-left
+  pub refused_answer :
+      (res : Result (Option Rect) Reason) (e : Reason) → IsErrAnd res (λ x. x ≡ e) → listed e ≡ spread_refusal r x spread →
+      as_bridge_answer res ≡ enclosed (LoadWithSpread r x spread)
+  unfolding enclosed
+  refused_answer (Ok found) e given is = absurd given
+  refused_answer (Err d) e given is =
+      let d-is : listed d ≡ spread_refusal r x spread = ap listed given ∙ is in
+      rw (← d-is) (sym (ap (λ (b : Bool). cond b (gives (listed d) (spread_rect r x spread)) (refused (listed d))) (listed_refuses d)))
 
-    pub sides-accepted : (side_refusal (spread_rect r x spread)).number ≡ 0 → gives (side_refusal (spread_rect r x spread)) (spread_rect r x spread) ≡ enclosed (LoadWithSpread r x spread)
-    unfolding enclosed
-    sides-accepted h = sym (answered_gives (side_refusal (spread_rect r x spread)) (spread_rect r x spread) h) ∙ ap (λ (a : Refusal). answered a (spread_rect r x spread)) sides-left
+  pub accepted_answer :
+      (p : Rect) → none ≡ spread_refusal r x spread → p ≡ spread_rect r x spread → as_bridge_answer (Ok (Some p)) ≡ enclosed (LoadWithSpread r x spread)
+  unfolding enclosed
+  accepted_answer p passed is = ap₂ answered passed is
 
 -- ---- what number 0 says
 

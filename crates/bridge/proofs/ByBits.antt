@@ -10,9 +10,8 @@ use lib.Dec.{T, leb, eqb, lit<, leb-zero, eqb-suc-zero}
 use lib.Pow.{pow_pos}
 use lib.IntN.{ℤ, pos, neg_ℤ, neg_ℤ-neg_ℤ}
 use lib.Signed.{le_z}
-use lib.Ieee.{Float, nan, inf, fin, binary32, ne, is_nan, fits, of_fields, of_bits, to_bits, low, ones}
+use lib.Ieee.{Float, nan, inf, fin, binary32, is_nan, fits, of_fields, of_bits, to_bits, low, ones}
 use lib.Ieee.Bits.{of_bits-to_bits, to_bits-lt}
-use lib.Ieee.Compare.{differs_from_itself, nan_differs}
 use Rattle.rational.specs.Rounding.{Rounding, down, up, quotient, ceiling}
 use Rattle.rational.proofs.Truth.{same_truth, and_both, both_and}
 use Rattle.rational.proofs.Order.{test_yes}
@@ -189,16 +188,12 @@ module _ (x : Float) (fit : fits binary32 x ≡ true) where
     about_below h down = turned h down
     about_below h up = turned h up
 
--- what differs from itself is not a number, and no test takes it
-pub not_itself : (least most : ℤ) (x : Float) → ne x x ≡ true → false ≡ is_from least most x
-unfolding is_from finite
-not_itself least most x e = sym (ap (is_from least most) (differs_from_itself x (subst T (sym e) tt)))
-
-pub itself : (x : Float) → ne x x ≡ false → T (not (is_nan x))
-unfolding is_nan
-itself nan e = absurd (true≢false (sym nan_differs ∙ e))
-itself (inf s) e = tt
-itself (fin s m d) e = tt
+-- no test takes what is not a number
+pub no_number : (least most : ℤ) (x : Float) → is_nan x ≡ true → is_from least most x ≡ false
+unfolding is_from finite is_nan
+no_number least most nan e = refl
+no_number least most (inf s) e = refl
+no_number least most (fin s m d) e = absurd (true≢false (sym e))
 
 -- a load is a number
 pub load-number : (x : Float) → T (is_load x) → T (not (is_nan x))

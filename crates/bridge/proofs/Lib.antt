@@ -1,4 +1,5 @@
 pub mod Exact
+pub mod Refusals
 pub mod Bits
 pub mod Steps
 pub mod ByBits

@@ -1,3 +1,4 @@
 pub mod Value
 pub mod Bridge
+pub mod Results
 pub mod Inner

@@ -1,6 +1,6 @@
 // Single-precision ohms by their bits: their tests, and the whole steps about them. Without the sign, bits are in the order of the sizes.
 // No float is computed with, so that a processor that takes subnormal numbers for zero, or rounds another way, answers alike; each is
-// compared with itself once, since what is not a number has no bits in the proofs.
+// asked once whether it is a number, since what is none has no bits in the proofs.
 ghost use Rattle.std.specs.Prelude.{◌≡◌, ◌≤◌, T};
 ghost use Rattle.curve.specs.Inner.{Side, Sides};
 ghost use Rattle.bridge.specs.Value.{is_load, is_spread, steps_about};
@@ -21,25 +21,18 @@ const STEP: u32 = 0x3a80_0000;
 
 const LARGEST_FIELD: u32 = 141;
 
-// Whether a number is a coordinate of a load. What differs from itself is not a number.
+// Whether a number is a coordinate of a load.
 pub fn is_load(x: f32) -> bool
     ensures { result ≡ is_load x }
 {
-    if x != x {
-        return false;
-    }
-    f32::to_bits(x) % SIGN <= LARGEST
+    !x.is_nan() && x.to_bits() % SIGN <= LARGEST
 }
 
 // Whether a number is a spread; minus zero is one.
 pub fn is_spread(x: f32) -> bool
     ensures { result ≡ is_spread x }
 {
-    if x != x {
-        return false;
-    }
-    let bits = f32::to_bits(x);
-    bits <= LARGEST || bits == SIGN
+    !x.is_nan() && (x.to_bits() <= LARGEST || x.to_bits() == SIGN)
 }
 
 // The steps below and above a size, by its bits. 16,384 ohms are 2^24 steps, so twice the digits, shifted by as much as the exponent is
@@ -51,7 +44,7 @@ fn size_about(bits: u32) -> Interval
     if bits < STEP {
         return Interval {
             low: 0,
-            high: (bits != 0) as i32,
+            high: i32::from(bits != 0),
         };
     }
     let shift = LARGEST_FIELD - bits / FIELD;
@@ -67,18 +60,18 @@ pub fn steps_about(x: f32) -> Interval
     requires { T (is_load x) }
     ensures { result ≡ steps_about x }
 {
-    let bits = f32::to_bits(x);
+    let bits = x.to_bits();
     let size = size_about(bits % SIGN);
     if bits < SIGN {
         return size;
     }
     Interval {
-        low: 0 - size.high,
-        high: 0 - size.low,
+        low: -size.high,
+        high: -size.low,
     }
 }
 
-// An interval with both ends moved outward.
+// An interval with both ends moved outward. In range stays a clause: an `Interval` lies in memory as C lends it, with any numbers.
 pub fn widened(i: Interval, by: i32) -> Interval
     requires sides { Sides i }
     requires side { Side by }

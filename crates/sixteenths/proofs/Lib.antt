@@ -3,7 +3,6 @@ pub mod Table
 pub mod Lifted
 pub mod Blocks
 pub mod Powers
-pub mod Arms
 pub mod Summing
 pub mod Reading
 pub mod Answers

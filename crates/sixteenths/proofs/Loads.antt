@@ -5,6 +5,7 @@ use mathlib.Core.Bool.{Bool, false, ◌&&◌, cond}
 use Prim.Native.Nat.{ℕ, ◌-◌, ◌^◌, ◌≤◌}
 use native.Mathlib.Omega.{arith}
 use lib.Dec.{T, eqb}
+use Rattle.std.proofs.Common.{Ok, Err}
 use lib.IntN.{ℤ, pos, neg_ℤ}
 use lib.Signed.{◌≤ℤ◌}
 use Rattle.rational.specs.Rounding.{Rounding, down, up}
@@ -13,22 +14,25 @@ use Rattle.bernstein.proofs.WholeSum.{power_positive, sum-least, sum-most, sum-i
 use Rattle.curve.specs.declared.Curve.{Curve}
 use Rattle.curve.specs.declared.Rect.{Rect}
 use Rattle.curve.specs.declared.Ohms.{Ohms}
+use Rattle.curve.specs.declared.Refusal.{Refusal}
+use Rattle.curve.specs.declared.reason.Reason.{Reason}
+use Rattle.curve.specs.Reason.{listed}
+use Rattle.curve.specs.Results.{as_evaluation}
 use Rattle.curve.specs.Limits.{max_side}
-use Rattle.curve.specs.Rect.{Coordinate, resistance, reactance, side, Outward, Inside, zero_rect, sides_in_range}
+use Rattle.curve.specs.Rect.{Coordinate, resistance, reactance, side, Outward, Inside, sides_in_range}
 use Rattle.curve.specs.Ohms.{ohms_of, zero_ohms, checked_ohms}
 use Rattle.curve.specs.Curve.{point, load_of}
 use Rattle.curve.specs.Refusals.{none, Accepted}
 use Rattle.curve.specs.Inner.{Side, Held}
+use Rattle.curve.proofs.Answers.{no_evaluation}
 use Rattle.curve.proofs.Accepted.{accepted_facts, sides_range}
-use Rattle.curve.proofs.Ranges.{zero_held}
-use Rattle.curve.proofs.Loads.{zero-ohms}
 use Rattle.curve.proofs.Points.{side-value}
-use Rattle.curve.proofs.Refused.{by_number}
 use Rattle.curve.proofs.RectSides.{same-sides}
 use Rattle.curve.proofs.Tests.{true_of}
 use Rattle.sixteenths.specs.Weights.{sixteenths}
 use Rattle.sixteenths.specs.Sixteenths.{sum_of, summed_side, side_exact, summed_interval, summed_load, summed_exact, sixteenths_refusal, evaluated_sixteenths}
-use Rattle.sixteenths.specs.Inner.{accepts, answer}
+use Rattle.sixteenths.specs.Inner.{accepts}
+use Rattle.curve.proofs.Listed.{listed_refuses}
 use Rattle.sixteenths.proofs.Answers.{number_facts, facts_accepts, summed_accepted, summed_refused}
 
 -- one side of the summed load
@@ -73,29 +77,26 @@ summed_held c j ok most = record { at = λ x. record { at = λ r. subst Side (sy
 
 -- ---- the answer
 
-held-ohms : (p : Rect) → Held p → checked_ohms p ≡ ohms_of p
+pub held-ohms : (p : Rect) → Held p → checked_ohms p ≡ ohms_of p
 unfolding checked_ohms
 held-ohms p h = ap (λ (b : Bool). cond b (ohms_of p) zero_ohms) (true_of (sides_in_range p) (sides_range p (λ x r. (h.at x).at r)))
 
 pub accepted-answer :
-    (c : Curve) (j : ℕ) → Accepted c → j ≤ sixteenths → (load : Rect) (exact : Bool) →
-    ((x : Coordinate) (r : Rounding) → side x r load ≡ summed_side c j x r) → exact ≡ summed_exact c j → answer none load exact ≡ evaluated_sixteenths c j
-accepted-answer c j ok most load exact each flag =
+    (c : Curve) (j : ℕ) → Accepted c → j ≤ sixteenths → (load : Rect) (ohms : Ohms) (exact : Bool) →
+    ((x : Coordinate) (r : Rounding) → side x r load ≡ summed_side c j x r) → ohms ≡ checked_ohms load → exact ≡ summed_exact c j →
+    as_evaluation (Ok (record { load = load; ohms = ohms; exact = exact })) ≡ evaluated_sixteenths c j
+accepted-answer c j ok most load ohms exact each shown flag =
     let same : load ≡ summed_load c j = same-sides (λ x r. each x r ∙ sym (side_summed c j x r)) in
-    ap₂ (answer none) same flag
-    ∙ ap (λ (o : Ohms). record { refusal = none; load = summed_load c j; ohms = o; exact = summed_exact c j }) (held-ohms (summed_load c j) (summed_held c j ok most))
-    ∙ sym (summed_accepted c j ok most)
+    let held : ohms ≡ ohms_of (summed_load c j) = shown ∙ ap checked_ohms same ∙ held-ohms (summed_load c j) (summed_held c j ok most) in
+    rw (same, held, flag) (sym (summed_accepted c j ok most))
 
-pub refused-answer : (c : Curve) (j : ℕ) → accepts c j ≡ false → answer (sixteenths_refusal c j) zero_rect false ≡ evaluated_sixteenths c j
-refused-answer c j test = by_number (sixteenths_refusal c j).number accepted refused
-  where
-    accepted : (sixteenths_refusal c j).number ≡ 0 → answer (sixteenths_refusal c j) zero_rect false ≡ evaluated_sixteenths c j
-    accepted h = let (ok, most) = number_facts c j h in absurd (subst T (sym (facts_accepts c j ok most) ∙ test) tt)
+-- a reading that one pass does not accept is refused
+pub not_accepted : (c : Curve) (j : ℕ) → accepts c j ≡ false → sixteenths_refusal c j ≡ none → ⊥
+not_accepted c j test h = let (ok, most) = number_facts c j (ap (λ (r : Refusal). r.number) h) in subst T (sym (facts_accepts c j ok most) ∙ test) tt
 
-    refused : eqb (sixteenths_refusal c j).number 0 ≡ false → answer (sixteenths_refusal c j) zero_rect false ≡ evaluated_sixteenths c j
-    refused e =
-        ap (λ (o : Ohms). record { refusal = sixteenths_refusal c j; load = zero_rect; ohms = o; exact = false }) (held-ohms zero_rect zero_held ∙ zero-ohms)
-        ∙ sym (summed_refused c j e)
+pub refused_answer : (c : Curve) (j : ℕ) (e : Reason) → listed e ≡ sixteenths_refusal c j → as_evaluation (Err e) ≡ evaluated_sixteenths c j
+refused_answer c j e is =
+    ap no_evaluation is ∙ sym (summed_refused c j (subst (λ (r : Refusal). eqb r.number 0 ≡ false) is (listed_refuses e)))
 
 -- the flag, by its four sides
 pub four :

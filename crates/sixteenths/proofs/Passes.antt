@@ -1,33 +1,37 @@
--- A pass over the points with the weights at j/16 asks that none is too large, and gives the sums with the weights of its degree.
--- Assumes nothing.
-use mathlib.Core.Path.{◌≡◌, sym, subst}
-use mathlib.Core.Bool.{true}
-use mathlib.Core.List.{List}
-use Prim.Native.Nat.{ℕ, ◌+◌, ◌-◌, ◌≤◌}
-use native.Mathlib.Omega.{arith}
-use lib.ListN.{get_or}
+-- The weights of a degree among those at j/16: none is too large, and a pass with them gives the sums with the weights of its degree.
+use Rattle.std.proofs.Common.{◌≡◌, sym, ◌∙◌, subst, List, ℕ, ◌+◌, ◌-◌, ◌<◌, ◌≤◌, length, get_or, take, drop, arith, Option, Some, None, IfSome}
+use Rattle.std.proofs.lemmas.List.{get_or-take, get_or-drop, length-take, length-drop}
 use Rattle.bernstein.specs.WholeSum.{weight}
 use Rattle.curve.specs.declared.Curve.{Curve}
 use Rattle.curve.specs.Curve.{point}
-use Rattle.sixteenths.specs.declared.sums.Pass.{Pass}
-use Rattle.sixteenths.specs.Weights.{sixteenths, highest, start}
-use Rattle.sixteenths.specs.Inner.{largest_weight, BlockOf, Summed, good_below}
+use Rattle.sixteenths.specs.declared.sums.Sums.{Sums}
+use Rattle.sixteenths.specs.Weights.{sixteenths, highest, block, start}
+use Rattle.sixteenths.specs.Inner.{largest_weight, BlockOf, Summed}
+use Rattle.sixteenths.proofs.Blocks.{start-within}
 use Rattle.sixteenths.proofs.Table.{weight-most}
 use Rattle.sixteenths.proofs.Summing.{summed_agree}
 
--- a pass over the points 0 to n with these weights
-abbrev pub Gives : (ℕ → ℕ) → Curve → ℕ → Pass → Type 0
-Gives W c n r = (r.good ≡ good_below (n + 1) (point c)) × (r.good ≡ true → Summed W (point c) (n + 1) r.sums)
+-- the weights of degree n
+abbrev pub of_degree : ℕ → List ℕ → List ℕ
+of_degree n w = take (n + 1) (drop (start n) w)
 
 module _ (n j : ℕ) (some : 1 ≤ n) (few : n ≤ highest) (most : j ≤ sixteenths) (w : List ℕ) (weights : BlockOf j w) where
-  pub light : (k : ℕ) → k ≤ n → get_or w (start n + k) 0 ≤ largest_weight
-  light k h = subst (λ (m : ℕ). m ≤ largest_weight) (sym (weights.entry n k some few h)) (weight-most n j k some few most h)
+  entry : (k : ℕ) → k < n + 1 → get_or (of_degree n w) k 0 ≡ weight n (sixteenths - j) j k
+  entry k h = get_or-take (n + 1) (drop (start n) w) k 0 h ∙ get_or-drop (start n) w k 0 ∙ weights.entry n k some few (omega arith)
+
+  many : length w ≡ block → length (of_degree n w) ≡ n + 1
+  many full = let within = start-within n some few in omega (arith, length-take (n + 1) (drop (start n) w), length-drop (start n) w)
+
+  pub light : (k : ℕ) → k < length (of_degree n w) → get_or (of_degree n w) k 0 ≤ largest_weight
+  light k h =
+      let within : k < n + 1 = omega (arith, length-take (n + 1) (drop (start n) w)) in
+      subst (λ (m : ℕ). m ≤ largest_weight) (sym (entry k within)) (weight-most n j k some few most (omega arith))
 
   pub gives :
-      (c : Curve) → c.degree ≡ n → (r : Pass) → Gives (λ k. get_or w (start n + k) 0) c n r →
-      Gives (weight c.degree (sixteenths - j) j) c c.degree r
-  gives c is r given =
-      subst (λ (m : ℕ). Gives (weight m (sixteenths - j) j) c m r) (sym is) (
-        given.0,
-        λ good. summed_agree _ _ (point c) (n + 1) r.sums (λ k h. weights.entry n k some few (omega arith)) (given.1 good),
-      )
+      (c : Curve) → c.degree ≡ n → length w ≡ block → (r : Option Sums) →
+      IfSome r (Summed (λ k. get_or (of_degree n w) k 0) (point c) (length (of_degree n w))) →
+      IfSome r (Summed (weight c.degree (sixteenths - j) j) (point c) (c.degree + 1))
+  gives c is full None given = given
+  gives c is full (Some s) given =
+      subst (λ (m : ℕ). Summed (weight m (sixteenths - j) j) (point c) (m + 1) s) (sym is)
+      (summed_agree _ _ (point c) (n + 1) s entry (subst (λ (m : ℕ). Summed (λ k. get_or (of_degree n w) k 0) (point c) m s) (many full) given))

@@ -4,7 +4,7 @@ use mathlib.Core.Path.{◌≡◌, ap, ◌∙◌}
 use Prim.Native.Nat.{ℕ, ◌+◌, ◌*◌, ◌-◌, ◌^◌, ◌≤◌, ◌<◌}
 use native.Mathlib.Omega.{arith}
 use lib.IntN.{ℤ, pos, ◌+ℤ◌, ◌-ℤ◌, ◌*ℤ◌, +ℤ-neg_ℤ_cancel}
-use Rattle.rational.specs.Rounding.{Rounding, down, up, quotient, divisible}
+use Rattle.rational.specs.Rounding.{Rounding, quotient, divisible}
 use Rattle.rational.proofs.Order.{pos_reflects, ≤ℤ-reflexive, ≤ℤ-trans, +ℤ-mono_right}
 use Rattle.rational.proofs.Quotient.{quotient_shift}
 use Rattle.rational.proofs.Divisible.{divisible_shift}
@@ -12,7 +12,7 @@ use Rattle.bernstein.specs.WholeSum.{weight, whole_sum}
 use Rattle.bernstein.proofs.WholeSum.{power_positive, sum_moved, sum-most}
 use Rattle.curve.specs.declared.Curve.{Curve}
 use Rattle.curve.specs.Limits.{max_side}
-use Rattle.curve.specs.Rect.{Coordinate, resistance, reactance, side}
+use Rattle.curve.specs.Rect.{Coordinate, side}
 use Rattle.curve.specs.Curve.{point}
 use Rattle.curve.specs.Refusals.{Accepted}
 use Rattle.curve.proofs.Accepted.{accepted_facts}
@@ -20,17 +20,6 @@ use Rattle.sixteenths.specs.declared.sums.Sums.{Sums}
 use Rattle.sixteenths.specs.Weights.{sixteenths}
 use Rattle.sixteenths.specs.Sixteenths.{sum_of, summed_side, side_exact}
 use Rattle.sixteenths.specs.Inner.{sum_at, Summed, SmallQuotients}
-
--- a law of each side of a rectangle that is given by its sides
-pub sides :
-    {rl rh xl xh : ℤ} (f : Coordinate → Rounding → ℤ) →
-    rl ≡ f resistance down → rh ≡ f resistance up → xl ≡ f reactance down → xh ≡ f reactance up →
-    (x : Coordinate) (r : Rounding) →
-    side x r (record { resistance = record { low = rl; high = rh }; reactance = record { low = xl; high = xh } }) ≡ f x r
-sides f a b c d resistance down = a
-sides f a b c d resistance up = b
-sides f a b c d reactance down = c
-sides f a b c d reactance up = d
 
 -- the sums over all points of an accepted curve
 module _

@@ -18,13 +18,9 @@ use Rattle.curve.specs.Inner.{Held}
 use Rattle.bernstein.proofs.EveryMap.{all_at}
 use Rattle.bernstein.proofs.WholeSum.{total_agree}
 use Rattle.curve.proofs.Accepted.{range_held}
-use Rattle.sixteenths.specs.Weights.{highest}
 use Rattle.sixteenths.specs.declared.sums.Sums.{Sums}
-use Rattle.sixteenths.specs.Inner.{largest_weight, lifted, sum_at, added_to, Roomy, Summed, good_below}
+use Rattle.sixteenths.specs.Inner.{largest_weight, lifted, sum_at, added_to, Summed, good_below}
 use Rattle.sixteenths.proofs.Lifted.{lifted_is, weighed_most}
-
-abbrev no_sums : Sums
-no_sums = record { rlow = 0; rhigh = 0; xlow = 0; xhigh = 0 }
 
 added_at : (s : Sums) (w : ℕ) (p : Rect) (x : Coordinate) (r : Rounding) → sum_at x r (added_to s w p) ≡ sum_at x r s + w * lifted (side x r p)
 added_at s w p resistance down = refl
@@ -32,16 +28,20 @@ added_at s w p resistance up = refl
 added_at s w p reactance down = refl
 added_at s w p reactance up = refl
 
-none-at : (x : Coordinate) (r : Rounding) → sum_at x r no_sums ≡ 0
-none-at resistance down = refl
-none-at resistance up = refl
-none-at reactance down = refl
-none-at reactance up = refl
+-- the sums of no points, as the default of the record gives them
+abbrev pub NoSums : Sums → Type 0
+NoSums s = (s.rlow ≡ 0) × ((s.rhigh ≡ 0) × ((s.xlow ≡ 0) × (s.xhigh ≡ 0)))
+
+none-at : (s : Sums) → NoSums s → (x : Coordinate) (r : Rounding) → sum_at x r s ≡ 0
+none-at s h resistance down = h.0
+none-at s h resistance up = h.1.0
+none-at s h reactance down = h.1.1.0
+none-at s h reactance up = h.1.1.1
 
 module _ (W : ℕ → ℕ) (P : ℕ → Rect) where
-  pub summed_start : Summed W P 0 no_sums
+  pub summed_start : (s : Sums) → NoSums s → Summed W P 0 s
   unfolding total_below
-  summed_start = record { total = λ x r. ap pos (none-at x r); most = λ x r. let none = none-at x r in omega arith }
+  summed_start s h = record { total = λ x r. ap pos (none-at s h x r); most = λ x r. let none = none-at s h x r in omega arith }
 
   pub summed_next : (k : ℕ) (s : Sums) → Summed W P k s → W k ≤ largest_weight → Held (P k) → Summed W P (k + 1) (added_to s (W k) (P k))
   unfolding total_below
@@ -58,9 +58,6 @@ module _ (W : ℕ → ℕ) (P : ℕ → Rect) where
         let sum = added_at s (W k) (P k) x r in
         omega arith;
   }
-
-  pub summed_roomy : (k : ℕ) (s : Sums) → k ≤ highest → Summed W P k s → Roomy s
-  summed_roomy k s few sums = record { most = λ x r. let most = sums.most x r in omega arith }
 
 -- only the weights of the points that are summed up matter
 pub summed_agree :
@@ -83,11 +80,11 @@ pub good_next : (P : ℕ → Rect) (k : ℕ) → good_below k P ≡ true → goo
 unfolding all_below
 good_next P k before test = ap (λ (m : ℕ). good_below m P) (add-one k) ∙ both_and before test
 
-pub good_fails : (P : ℕ → Rect) (n k : ℕ) → k ≤ n → good P k ≡ false → good_below (n + 1) P ≡ false
-good_fails P n k within test = go (good_below (n + 1) P) refl
+pub good_fails : (P : ℕ → Rect) (m k : ℕ) → k < m → good P k ≡ false → good_below m P ≡ false
+good_fails P m k within test = go (good_below m P) refl
   where
-    go : (b : Bool) → good_below (n + 1) P ≡ b → b ≡ false
-    go true all = sym (all_at (n + 1) (good P) all k (omega arith)) ∙ test
+    go : (b : Bool) → good_below m P ≡ b → b ≡ false
+    go true all = sym (all_at m (good P) all k within) ∙ test
     go false all = refl
 
 -- a good point's sides are in range

@@ -6,10 +6,7 @@ use Rattle.bernstein.specs.DeCasteljau.{all_below}
 use Rattle.bernstein.specs.WholeSum.{weight, total_below}
 use Rattle.curve.specs.declared.Rect.{Rect}
 use Rattle.curve.specs.declared.Curve.{Curve}
-use Rattle.curve.specs.declared.Refusal.{Refusal}
-use Rattle.curve.specs.declared.Evaluation.{Evaluation}
 use Rattle.curve.specs.Limits.{max_side}
-use Rattle.curve.specs.Ohms.{checked_ohms}
 use Rattle.curve.specs.Rect.{Coordinate, resistance, reactance, side, sides_in_range, sides_ordered}
 use Rattle.curve.specs.Curve.{point}
 use Rattle.sixteenths.specs.declared.sums.Sums.{Sums}
@@ -46,10 +43,6 @@ added_to s w p =
       xlow = s.xlow + w * lifted p.reactance.low;
       xhigh = s.xhigh + w * lifted p.reactance.high;
     }
-
--- an answer with the ohms of its load
-abbrev pub answer : Refusal → Rect → Bool → Evaluation
-answer refusal load exact = record { refusal = refusal; load = load; ohms = checked_ohms load; exact = exact }
 
 -- four sums with room for one more point
 pub record Roomy (s : Sums) : Type 0 where

@@ -3,61 +3,51 @@
 #![tactic(auto)]
 
 ghost use Rattle.std.specs.Prelude.{◌≡◌};
+ghost use Rattle.curve.specs.Reason.{refusal_of};
+ghost use Rattle.curve.specs.Results.{as_evaluation};
 ghost use Rattle.sixteenths.specs.Sixteenths.{sixteenths_refusal, evaluated_sixteenths};
-ghost use Rattle.sixteenths.specs.Inner.{answer};
 
 mod rounding;
 mod sums;
 mod weights;
 
-use curve::{
-    Curve, Evaluation, Rect, Refusal, checked_ohms, curve_refusal, first_of, refused_unless,
-    zero_rect,
-};
+use curve::{Curve, Evaluation, Reading, Reason, check_curve, checked_ohms, ensure};
 use rounding::rounded_load;
 use sums::sums_of;
 
 // The largest j.
 pub const SIXTEENTHS: u32 = 16;
 
-// The exact flag of a refused call.
-const DARK: bool = false;
-
 // Refusals 1 to 3, and 15 for a j above 16.
-fn sixteenths_refusal(c: Curve, j: u32) -> Refusal
-    ensures { result ≡ sixteenths_refusal c j }
+#[tactic(auto, using(curve::proofs::Listed::listed_first), unfolding(crate::specs::Sixteenths::sixteenths_refusal, crate::specs::Sixteenths::numerator_refusal))]
+fn check_sixteenths(c: Curve, j: u32) -> Result<(), Reason>
+    ensures { refusal_of result ≡ sixteenths_refusal c j }
 {
-    let curve = curve_refusal(c);
-    let numerator = refused_unless(j <= SIXTEENTHS, 15, 0);
-    first_of(curve, numerator)
-}
-
-// An answer with the ohms of its load.
-fn answer_of(refusal: Refusal, load: Rect, exact: bool) -> Evaluation
-    ensures { result ≡ answer refusal load exact }
-{
-    Evaluation {
-        refusal,
-        load,
-        ohms: checked_ohms(load),
-        exact,
-    }
+    check_curve(c)?;
+    ensure(j <= SIXTEENTHS, Reason::Sixteenth)
 }
 
 // The load at j/16, each side rounded once; refusals 1 to 3 and 15. Only a curve that one pass does not accept is looked at again.
+#[tactic(auto, using(crate::proofs::Loads::refused_answer))]
+pub fn try_evaluate_sixteenths(c: Curve, j: u32) -> Result<Reading, Reason>
+    ensures { as_evaluation result ≡ evaluated_sixteenths c j }
+{
+    let Some(sums) = sums_of(c, j) else {
+        check_sixteenths(c, j)?;
+        unreachable!()
+    };
+    let rounded = rounded_load(sums, c.degree);
+    let load = rounded.value;
+    Ok(Reading {
+        load,
+        ohms: checked_ohms(load),
+        exact: rounded.exact,
+    })
+}
+
+// The same as the papers' record, which carries a refusal's number and place beside zeros.
 pub fn evaluate_sixteenths(c: Curve, j: u32) -> Evaluation
     ensures { result ≡ evaluated_sixteenths c j }
 {
-    let pass = sums_of(c, j);
-    if !pass.good {
-        return answer_of(sixteenths_refusal(c, j), zero_rect(), DARK);
-    }
-    let sums = pass.sums;
-    let reading = rounded_load(sums, c.degree);
-    let load = reading.load;
-    let none = Refusal {
-        number: 0,
-        place: 0,
-    };
-    answer_of(none, load, reading.exact)
+    Evaluation::from(try_evaluate_sixteenths(c, j))
 }

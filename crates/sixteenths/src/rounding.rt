@@ -7,61 +7,43 @@ ghost use Rattle.sixteenths.specs.Weights.{sixteenths, highest};
 ghost use Rattle.sixteenths.specs.Inner.{sum_at, SmallQuotients};
 
 use crate::sums::Sums;
-use curve::{Interval, MAX_SIDE, Rect};
+use curve::{Interval, MAX_SIDE, Rect, Rounded};
 
-// One side, and whether its division left no remainder.
-#[derive(Clone, Copy)]
-struct Quotient {
-    side: i32,
-    exact: bool,
-}
-
-// A load, and whether none of its divisions left a remainder.
-#[derive(Clone, Copy)]
-pub struct Reading {
-    pub load: Rect,
-    pub exact: bool,
-}
-
-// A sum of lifted sides divided by 16 to the power n, rounded up or down, and moved down again.
-fn divided(sum: u64, n: u32, up: bool) -> Quotient
+// A sum of lifted sides divided by 16 to the power n, rounded up or down, and moved down again. `up` is the `rounding_of` of its clause.
+fn divided(sum: u64, n: u32, up: bool) -> Rounded<i32>
     requires n_le_highest { n ≤ highest }
     requires sum_bound { sum ≤ 2 * max_side * sixteenths ^ n }
-    ensures { (result.side ≡ quotient (rounding_of up) (pos sum) (sixteenths ^ n) -ℤ pos max_side) × (result.exact ≡ divisible (pos sum) (sixteenths ^ n)) }
+    ensures { (result.value ≡ quotient (rounding_of up) (pos sum) (sixteenths ^ n) -ℤ pos max_side) × (result.exact ≡ divisible (pos sum) (sixteenths ^ n)) }
 {
     let size = 1 << (4 * n);
     let steps = sum >> (4 * n);
     let reached = steps * size;
-    let rounded = if up {
-        steps + (reached < sum) as u64
-    } else {
-        steps
-    };
-    Quotient {
-        side: rounded as i32 - MAX_SIDE,
+    let rounded = steps + u64::from(up & (reached < sum));
+    Rounded {
+        value: rounded as i32 - MAX_SIDE,
         exact: sum == reached,
     }
 }
 
 // All four sides.
-pub fn rounded_load(s: Sums, n: u32) -> Reading
+pub fn rounded_load(s: Sums, n: u32) -> Rounded<Rect>
     requires n_le_highest { n ≤ highest }
     requires small_quotients { SmallQuotients n s }
-    ensures { ((x : Coordinate) (r : Rounding) → side x r result.load ≡ quotient r (pos (sum_at x r s)) (sixteenths ^ n) -ℤ pos max_side) × (result.exact ≡ ((divisible (pos (sum_at resistance down s)) (sixteenths ^ n) && divisible (pos (sum_at resistance up s)) (sixteenths ^ n)) && (divisible (pos (sum_at reactance down s)) (sixteenths ^ n) && divisible (pos (sum_at reactance up s)) (sixteenths ^ n)))) }
+    ensures { ((x : Coordinate) (r : Rounding) → side x r result.value ≡ quotient r (pos (sum_at x r s)) (sixteenths ^ n) -ℤ pos max_side) × (result.exact ≡ ((divisible (pos (sum_at resistance down s)) (sixteenths ^ n) && divisible (pos (sum_at resistance up s)) (sixteenths ^ n)) && (divisible (pos (sum_at reactance down s)) (sixteenths ^ n) && divisible (pos (sum_at reactance up s)) (sixteenths ^ n)))) }
 {
     let rlow = divided(s.rlow, n, false);
     let rhigh = divided(s.rhigh, n, true);
     let xlow = divided(s.xlow, n, false);
     let xhigh = divided(s.xhigh, n, true);
-    Reading {
-        load: Rect {
+    Rounded {
+        value: Rect {
             resistance: Interval {
-                low: rlow.side,
-                high: rhigh.side,
+                low: rlow.value,
+                high: rhigh.value,
             },
             reactance: Interval {
-                low: xlow.side,
-                high: xhigh.side,
+                low: xlow.value,
+                high: xhigh.value,
             },
         },
         exact: (rlow.exact & rhigh.exact) & (xlow.exact & xhigh.exact),

@@ -1,17 +1,18 @@
 // The four sums of a reading, over all control points of a curve, each side times its weight. Sides are moved up by the largest one first,
 // so that natural numbers are added; a sum is at most 2 to the power 57.
-ghost use Rattle.std.specs.Prelude.{◌≡◌, true, ℕ, ◌+◌, ◌*◌, ◌-◌, ◌<◌, ◌≤◌, get_or};
+ghost use Rattle.std.specs.Prelude.{◌≡◌, ℕ, ◌+◌, ◌*◌, ◌-◌, ◌<◌, ◌≤◌, length, get_or, is_some, IfSome};
 ghost use Rattle.bernstein.specs.WholeSum.{weight};
 ghost use Rattle.curve.specs.Curve.{point};
 ghost use Rattle.curve.specs.Inner.{Side, Held};
-ghost use Rattle.sixteenths.specs.Weights.{sixteenths, highest, block};
-ghost use Rattle.sixteenths.specs.Inner.{largest_weight, lifted, added_to, Roomy, Summed, good_below, has_weights, accepts};
+ghost use Rattle.sixteenths.specs.Weights.{sixteenths, highest};
+ghost use Rattle.sixteenths.specs.Inner.{largest_weight, lifted, added_to, Roomy, Summed, good_below, accepts};
 
 use crate::SIXTEENTHS;
-use crate::weights::{BLOCK, HIGHEST_DEGREE, weights_at};
-use curve::{Curve, MAX_SIDE, Rect, is_from_one_to, is_good};
+use crate::weights::weights_at;
+use curve::{Curve, MAX_SIDE, Rect, is_good};
 
-#[derive(Clone, Copy)]
+// Four numbers by name, as Ohms has them: with one type for a coordinate's two, each function here would be two, of as many lines.
+#[derive(Clone, Copy, Default)]
 pub struct Sums {
     pub rlow: u64,
     pub rhigh: u64,
@@ -19,14 +20,7 @@ pub struct Sums {
     pub xhigh: u64,
 }
 
-// The sums, and whether the call is accepted, so that they are good.
-#[derive(Clone, Copy)]
-pub struct Pass {
-    pub good: bool,
-    pub sums: Sums,
-}
-
-// A lifted side times its weight.
+// A lifted side times its weight. In range stays a clause: a `Rect` lies in memory as C lends it, with any numbers.
 fn weighed(w: u64, side: i32) -> u64
     requires w_le_largest_weight { w ≤ largest_weight }
     requires side { Side side }
@@ -52,73 +46,42 @@ fn added(s: Sums, w: u64, p: Rect) -> Sums
     }
 }
 
-// The sums of no points, and the answer where the call is not accepted.
-const ZERO: Sums = Sums {
-    rlow: 0,
-    rhigh: 0,
-    xlow: 0,
-    xhigh: 0,
-};
-
-const NOT_ACCEPTED: Pass = Pass {
-    good: false,
-    sums: ZERO,
-};
-
-// One pass over the points of a curve of degree n, whose weights begin at an index. It ends at a point whose sides are not in range and in order.
-fn sums_from(c: Curve, w: [u64; BLOCK], n: usize, from: usize) -> Pass
-    requires n_le_highest { n ≤ highest }
-    requires n_bound { from + n < block }
-    requires by_index { (k : ℕ) → k ≤ n → get_or w (from + k) 0 ≤ largest_weight }
-    ensures { (result.good ≡ good_below (n + 1) (point c)) × (result.good ≡ true → Summed (λ k. get_or w (from + k) 0) (point c) (n + 1) result.sums) }
+// One pass over the first points of a curve, one for each weight. It ends at a point whose sides are not in range and in order.
+// The points go by index: with zip over points and weights a call at degree 8 took a quarter longer (a trial).
+fn sums_from(c: Curve, weights: &[u64]) -> Option<Sums>
+    requires few { length weights.now ≤ highest + 1 }
+    requires light { (k : ℕ) → k < length weights.now → get_or weights.now k 0 ≤ largest_weight }
+    ensures accepted { is_some result ≡ good_below (length weights.now) (point c) }
+    ensures sums { IfSome result (Summed (λ k. get_or weights.now k 0) (point c) (length weights.now)) }
 {
-    let points = c.points;
-    let mut sums = ZERO;
-    let mut k = 0;
-    while k <= n {
-        let p = points[k];
+    let mut sums = Sums::default();
+    for (k, w) in weights.iter().enumerate() {
+        let p = c.points[k];
         if !is_good(p) {
-            return NOT_ACCEPTED;
+            return None;
         }
-        sums = added(sums, w[from + k], p);
-        k += 1;
+        sums = added(sums, *w, p);
     }
-    Pass { good: true, sums }
+    Some(sums)
 }
 
-// The sums of a curve of any degree from 1 to the highest. Each arm asks for the weights by itself, so that only those of its degree are loaded.
-fn sums_at(c: Curve, j: u32) -> Pass
-    requires le_degree { 1 ≤ c.degree }
-    requires degree_le_highest { c.degree ≤ highest }
-    requires j_le_sixteenths { j ≤ sixteenths }
-    ensures { (result.good ≡ good_below (c.degree + 1) (point c)) × (result.good ≡ true → Summed (weight c.degree (sixteenths - j) j) (point c) (c.degree + 1) result.sums) }
+// The sums of any curve at any j, or none where the call is refused. Each arm asks for the weights by itself, so that only those of its degree are loaded (docs/DECISIONS.md).
+pub fn sums_of(c: Curve, j: u32) -> Option<Sums>
+    ensures accepted { is_some result ≡ accepts c j }
+    ensures sums { IfSome result (Summed (weight c.degree (sixteenths - j) j) (point c) (c.degree + 1)) }
 {
-    let degree = c.degree;
-    match degree {
-        1 => sums_from(c, weights_at(j), 1, 0),
-        2 => sums_from(c, weights_at(j), 2, 2),
-        3 => sums_from(c, weights_at(j), 3, 5),
-        4 => sums_from(c, weights_at(j), 4, 9),
-        5 => sums_from(c, weights_at(j), 5, 14),
-        6 => sums_from(c, weights_at(j), 6, 20),
-        7 => sums_from(c, weights_at(j), 7, 27),
-        _ => sums_from(c, weights_at(j), 8, 35),
+    if j > SIXTEENTHS {
+        return None;
     }
-}
-
-// Whether the table has the weights of a degree and a j.
-fn has_weights(degree: u32, j: u32) -> bool
-    ensures { result ≡ has_weights degree j }
-{
-    is_from_one_to(degree, HIGHEST_DEGREE) && j <= SIXTEENTHS
-}
-
-// The sums of any curve at any j; not good where the call is refused.
-pub fn sums_of(c: Curve, j: u32) -> Pass
-    ensures { (result.good ≡ accepts c j) × (result.good ≡ true → Summed (weight c.degree (sixteenths - j) j) (point c) (c.degree + 1) result.sums) }
-{
-    if !has_weights(c.degree, j) {
-        return NOT_ACCEPTED;
+    match c.degree {
+        1 => sums_from(c, &weights_at(j)[0..2]),
+        2 => sums_from(c, &weights_at(j)[2..5]),
+        3 => sums_from(c, &weights_at(j)[5..9]),
+        4 => sums_from(c, &weights_at(j)[9..14]),
+        5 => sums_from(c, &weights_at(j)[14..20]),
+        6 => sums_from(c, &weights_at(j)[20..27]),
+        7 => sums_from(c, &weights_at(j)[27..35]),
+        8 => sums_from(c, &weights_at(j)[35..44]),
+        _ => None,
     }
-    sums_at(c, j)
 }

@@ -5,11 +5,8 @@ ghost use Rattle.std.specs.Prelude.{◌≡◌, ℕ, ◌+◌, ◌≤◌, ◌<◌,
 ghost use Rattle.sixteenths.specs.Weights.{sixteenths, entries, block, Rule};
 ghost use Rattle.sixteenths.specs.Inner.{BlockOf};
 
-// The highest degree that the table has.
-pub const HIGHEST_DEGREE: u32 = 8;
-
 // The entries of one j, and all entries.
-pub const BLOCK: usize = 44;
+const BLOCK: usize = 44;
 
 const ENTRIES: usize = 748;
 
@@ -300,21 +297,20 @@ fn weights() -> [u64; ENTRIES]
     WEIGHTS
 }
 
-// The entries of one block, from its first one on.
+// The entries of one block, from its first one on. With copy_from_slice here a call of the reading took six times as long (a trial).
 fn block_from(w: [u64; ENTRIES], from: usize) -> [u64; BLOCK]
     requires { from + block ≤ entries }
     ensures { (k : ℕ) → k < block → get_or result k 0 ≡ get_or w (from + k) 0 }
 {
     let mut copied = [0; BLOCK];
-    let mut i = 0;
-    while i < BLOCK {
+    for i in 0..BLOCK {
         copied[i] = w[from + i];
-        i += 1;
     }
     copied
 }
 
-// The weights at j/16. The compiler keeps a match in read-only memory, and an array not (docs/DECISIONS.md).
+// The weights at j/16. An arm for each j, since the compiler keeps a match in read-only memory, and an array not (docs/DECISIONS.md).
+#[tactic(auto, using(crate::proofs::Blocks::block_of))]
 pub fn weights_at(j: u32) -> [u64; BLOCK]
     requires { j ≤ sixteenths }
     ensures { BlockOf j result }

@@ -6,35 +6,35 @@ use Rattle.curve.specs.declared.Interval.{Interval}
 use Rattle.curve.specs.declared.Rect.{Rect}
 use Rattle.curve.specs.declared.Refusal.{Refusal}
 use Rattle.curve.specs.Inner.{Side, Sides}
+use Rattle.curve.specs.Refusals.{none}
 use Rattle.curve.proofs.Sides.{side_back, side_passed}
-use Rattle.curve.proofs.Refused.{number_passed}
 use Rattle.bridge.specs.Value.{step_at, steps_about, is_load}
-use Rattle.bridge.specs.Bridge.{widened, spread_rect, number_refusal, side_refusal}
+use Rattle.bridge.specs.Bridge.{widened, spread_rect, number_refusal, side_refusal, spread_refusal}
+use Rattle.bridge.proofs.Refusals.{passed_on}
 use Rattle.bridge.proofs.Steps.{load_side, spread_load}
-use Rattle.bridge.proofs.Answers.{gives, numbers_refused, sides-refused, sides-accepted, numbers_passed, loads_passed}
+use Rattle.bridge.proofs.Answers.{numbers_first, sides_left, numbers_passed, loads_passed}
+use Rattle.bridge.proofs.enclose_load.Goals.{After-check_sides}
 use Rattle.bridge.proofs.enclose_load.Goals as goal
 
-pub returns-then-refusal-ne0 : goal.returns-then-refusal-ne0
-returns-then-refusal-ne0 c =
-    let e = c.number_refusal-refusal.ensures in
-    rw e (numbers_refused c.args.resistance c.args.reactance c.args.spread (λ h. c.if-refusal-ne0.true (number_passed (sym e) h)))
+pub returns-in_err-check_numbers-clause-refusal : goal.returns-in_err-check_numbers-clause-refusal
+returns-in_err-check_numbers-clause-refusal c =
+    passed_on _ _ c.from_residual.ensures.1 ∙ numbers_first c.args.resistance c.args.reactance c.args.spread _ c.in_err-check_numbers.ensures
 
 -- past the first test every number is in range
-in-range : (r x spread : Float) {found : Refusal} → found ≡ number_refusal r x spread → found.number ≡ 0 →
-    T (is_load r) × T (is_load x) × T (is_load spread)
-in-range r x spread e h =
-    let (load, few) = numbers_passed r x spread (number_passed e h) in
+in-range : (r x spread : Float) → none ≡ number_refusal r x spread → T (is_load r) × T (is_load x) × T (is_load spread)
+in-range r x spread e =
+    let (load, few) = numbers_passed r x spread (ap (λ (r : Refusal). r.number) (sym e)) in
     let (first, second) = loads_passed r x load in
     (first, second, spread_load spread few)
 
 pub steps_about-by-requires : goal.steps_about-by-requires
-steps_about-by-requires c = (in-range _ _ _ c.number_refusal-refusal.ensures c.if-refusal-ne0.false).2
+steps_about-by-requires c = (in-range _ _ _ c.in_ok-check_numbers.ensures).2
 
 pub steps_about-requires : goal.steps_about-requires
-steps_about-requires c = (in-range _ _ _ c.number_refusal-refusal.ensures c.if-refusal-ne0.false).0
+steps_about-requires c = (in-range _ _ _ c.in_ok-check_numbers.ensures).0
 
 pub steps_about-requires-2 : goal.steps_about-requires-2
-steps_about-requires-2 c = (in-range _ _ _ c.number_refusal-refusal.ensures c.if-refusal-ne0.false).1
+steps_about-requires-2 c = (in-range _ _ _ c.in_ok-check_numbers.ensures).1
 
 -- the steps about a number in range are sides
 about-sides : (x : Float) {i : Interval} → T (is_load x) → i ≡ steps_about x → Sides i
@@ -47,20 +47,20 @@ spread_sides x t e = let s = about-sides x t e in (side_passed (s.at down), side
 
 pub widened-requires-clause-sides : goal.widened-requires-clause-sides
 widened-requires-clause-sides c =
-    about-sides c.args.resistance (in-range _ _ _ c.number_refusal-refusal.ensures c.if-refusal-ne0.false).0 c.steps_about.ensures
+    about-sides c.args.resistance (in-range _ _ _ c.in_ok-check_numbers.ensures).0 c.steps_about.ensures
 
 pub widened-requires-clause-side : goal.widened-requires-clause-side
 widened-requires-clause-side c =
-    let (low, high) = spread_sides c.args.spread (in-range _ _ _ c.number_refusal-refusal.ensures c.if-refusal-ne0.false).2 c.steps_about-by.ensures in
+    let (low, high) = spread_sides c.args.spread (in-range _ _ _ c.in_ok-check_numbers.ensures).2 c.steps_about-by.ensures in
     search rules
 
 pub widened-requires-2-clause-sides : goal.widened-requires-2-clause-sides
 widened-requires-2-clause-sides c =
-    about-sides c.args.reactance (in-range _ _ _ c.number_refusal-refusal.ensures c.if-refusal-ne0.false).1 c.steps_about-2.ensures
+    about-sides c.args.reactance (in-range _ _ _ c.in_ok-check_numbers.ensures).1 c.steps_about-2.ensures
 
 pub widened-requires-2-clause-side : goal.widened-requires-2-clause-side
 widened-requires-2-clause-side c =
-    let (low, high) = spread_sides c.args.spread (in-range _ _ _ c.number_refusal-refusal.ensures c.if-refusal-ne0.false).2 c.steps_about-by.ensures in
+    let (low, high) = spread_sides c.args.spread (in-range _ _ _ c.in_ok-check_numbers.ensures).2 c.steps_about-by.ensures in
     search rules
 
 -- the spread rounded up, as it is passed on
@@ -77,20 +77,21 @@ rect-is r x spread t e f g h k =
     (h ∙ ap₂ widened f (by-is spread t e))
     (k ∙ ap₂ widened g (by-is spread t e))
 
-pub returns-then-outside-ne0 : goal.returns-then-outside-ne0
-returns-then-outside-ne0 c =
-    let a = c.args in
-    let passed = number_passed c.number_refusal-refusal.ensures c.if-refusal-ne0.false in
-    let is = rect-is a.resistance a.reactance a.spread (in-range _ _ _ c.number_refusal-refusal.ensures c.if-refusal-ne0.false).2
-    c.steps_about-by.ensures c.steps_about.ensures c.steps_about-2.ensures c.widened.ensures c.widened-2.ensures in
-    let s = c.side_refusal-outside.ensures ∙ ap side_refusal is in
-    rw s (sides-refused a.resistance a.reactance a.spread passed (λ h. c.if-outside-ne0.true (number_passed (sym s) h)))
+found : (c : After-check_sides) → ◌≡◌ {A = Rect} (record { resistance = c.widened.result; reactance = c.widened-2.result }) (spread_rect c.args.resistance c.args.reactance c.args.spread)
+found c =
+    rect-is c.args.resistance c.args.reactance c.args.spread (in-range _ _ _ c.in_ok-check_numbers.ensures).2
+    c.steps_about-by.ensures c.steps_about.ensures c.steps_about-2.ensures c.widened.ensures c.widened-2.ensures
 
-pub returns : goal.returns
-returns c =
-    let a = c.args in
-    let passed = number_passed c.number_refusal-refusal.ensures c.if-refusal-ne0.false in
-    let is = rect-is a.resistance a.reactance a.spread (in-range _ _ _ c.number_refusal-refusal.ensures c.if-refusal-ne0.false).2
-    c.steps_about-by.ensures c.steps_about.ensures c.steps_about-2.ensures c.widened.ensures c.widened-2.ensures in
-    let s = c.side_refusal-outside.ensures ∙ ap side_refusal is in
-    ap₂ gives s is ∙ sides-accepted a.resistance a.reactance a.spread passed (number_passed s c.if-outside-ne0.false)
+-- past the numbers, the sides' refusal is the load's
+sides-refusal : (c : After-check_sides) (r : Refusal) → r ≡ side_refusal (record { resistance = c.widened.result; reactance = c.widened-2.result }) → r ≡ spread_refusal c.args.resistance c.args.reactance c.args.spread
+sides-refusal c r e = e ∙ ap side_refusal (found c) ∙ sides_left c.args.resistance c.args.reactance c.args.spread c.in_ok-check_numbers.ensures
+
+pub returns-in_err-check_sides-clause-refusal : goal.returns-in_err-check_sides-clause-refusal
+returns-in_err-check_sides-clause-refusal c =
+    passed_on _ _ c.from_residual-in_err-check_sides.ensures.1 ∙ sides-refusal (goal.at.returns-in_err-check_sides-clause-refusal c).After-check_sides _ c.in_err-check_sides.ensures
+
+pub returns-clause-refusal : goal.returns-clause-refusal
+returns-clause-refusal c = sides-refusal (goal.at.returns-clause-refusal c).After-check_sides _ c.in_ok-check_sides.ensures
+
+pub returns-clause-rect : goal.returns-clause-rect
+returns-clause-rect c = found (goal.at.returns-clause-rect c).After-check_sides

@@ -46,7 +46,7 @@ returns-then-bits-lt-STEP c =
     let bits = c.args.bits in
     ap₂ (λ (l h : ℤ). record { low = l; high = h })
     (sym (small_low bits c.if-bits-lt-STEP.true))
-    (byte-back (not (eqb bits 0)) ∙ sym (small-high bits c.if-bits-lt-STEP.true))
+    (rw c.from.ensures (byte-back (not (eqb bits 0)) ∙ sym (small-high bits c.if-bits-lt-STEP.true)))
 
 pub returns : goal.returns
 unfolding size_about
