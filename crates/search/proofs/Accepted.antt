@@ -18,6 +18,12 @@ use Rattle.search.specs.declared.Verdict.TheVariants.{Refused, Inside}
 use Rattle.search.specs.Limits.{max_depth, max_budget}
 use Rattle.search.specs.Box.{is_box}
 use Rattle.search.specs.Walk.{walked}
+use Rattle.search.specs.Results.{as_search_answer}
+use Rattle.curve.proofs.Listed.{listed_some, first_is, second_is}
+use Rattle.curve.specs.Reason.{listed}
+use Rattle.curve.specs.declared.reason.Reason.{Reason}
+use borrow.Author.Tests.{ne_eqb}
+use Rattle.std.specs.Prelude.{Err}
 use Rattle.search.specs.Search.{effort_refusal, box_refusal, deepest_sum, search_refusal, searched}
 
 abbrev pub answer : Verdict → Refusal → SearchAnswer
@@ -82,6 +88,25 @@ module _ (c : Curve) (box : Rect) (depth budget : ℕ) where
   pub searched-refused : eqb (search_refusal c box depth budget).number 0 ≡ false → searched c box depth budget ≡ answer Refused (search_refusal c box depth budget)
   unfolding searched
   searched-refused h = where_some (answer (walked box budget depth c 0 0 (Inside 0))) (answer Refused) (search_refusal c box depth budget) h
+
+  -- a reason to refuse it, where all that is tested before holds
+  pub curve_is : (e : Reason) → listed e ≡ curve_refusal c → listed e ≡ search_refusal c box depth budget
+  unfolding search_refusal
+  curve_is e h = first_is e (curve_refusal c) (box_refusal c box depth budget) h
+
+  pub box_is : (e : Reason) → none ≡ curve_refusal c → listed e ≡ unless (is_box box) 7 → listed e ≡ search_refusal c box depth budget
+  unfolding search_refusal box_refusal
+  box_is e curve h = first_is e (unless (is_box box) 7) (effort_refusal c depth budget) h ∙ second_is (curve_refusal c) (box_refusal c box depth budget) curve
+
+  pub effort_is : none ≡ curve_refusal c → none ≡ unless (is_box box) 7 → effort_refusal c depth budget ≡ search_refusal c box depth budget
+  unfolding search_refusal box_refusal
+  effort_is curve sides = second_is (unless (is_box box) 7) (effort_refusal c depth budget) sides ∙ second_is (curve_refusal c) (box_refusal c box depth budget) curve
+
+  pub passed : none ≡ curve_refusal c → none ≡ unless (is_box box) 7 → none ≡ effort_refusal c depth budget → Facts c box depth budget
+  passed curve sides effort = number_facts (ap (λ (r : Refusal). r.number) (sym (effort ∙ effort_is curve sides)))
+
+  pub refused_with : (e : Reason) → listed e ≡ search_refusal c box depth budget → as_search_answer (Err e) ≡ searched c box depth budget
+  refused_with e h = ap (answer Refused) h ∙ sym (searched-refused (ap (λ (r : Refusal). eqb r.number 0) (sym h) ∙ ne_eqb (listed e).number 0 (listed_some e)))
 
   pub searched-refusal : (searched c box depth budget).refusal ≡ search_refusal c box depth budget
   unfolding searched

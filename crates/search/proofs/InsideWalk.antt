@@ -1,27 +1,30 @@
 -- A walk that ends Inside was Inside all along, and its count grows: so it can be left as soon as it is not Inside any more.
 -- Assumes nothing.
-use mathlib.Core.Path.{◌≡◌, refl, sym, ap, ◌∙◌}
-use mathlib.Core.Bool.{true, false, not, false≢true}
-use Prim.Native.Nat.{ℕ, ◌+◌, ◌*◌, ◌-◌, ◌≤◌, ◌<◌}
-use native.Mathlib.Nat.{le_refl}
+use mathlib.Core.Path.{◌≡◌, refl, sym, ap, ◌∙◌, subst}
+use mathlib.Core.Bool.{Bool, true, false, not, false≢true}
+use Prim.Native.Nat.{ℕ, ◌+◌, ◌≤◌, ◌<◌}
 use native.Mathlib.Omega.{arith}
-use lib.Dec.{eqb}
-use borrow.Author.Tests.{eqb-false, ne_eqb}
+use mathlib.Core.Logic.{◌⊎◌, inl, inr}
+use lib.Dec.{T, eqb}
+use Rattle.std.specs.Prelude.{Option, Some, None, is_some}
+use borrow.Author.Tests.{eqb-false}
 use Rattle.curve.specs.declared.Rect.{Rect}
 use Rattle.curve.specs.declared.Curve.{Curve}
-use Rattle.curve.specs.declared.Subdivision.{Subdivision}
-use Rattle.curve.specs.Calls.{bounded, subdivided}
+use Rattle.curve.specs.Calls.{bounded}
 use Rattle.search.specs.declared.Verdict.{Verdict}
 use Rattle.search.specs.declared.Verdict.TheVariants.{Refused, Inside, Outside, Spent, Undecided}
 use Rattle.search.specs.declared.SearchAnswer.{SearchAnswer}
 use Rattle.search.specs.declared.visit.Visit.{Visit}
-use Rattle.search.specs.declared.visit.Visit.TheVariants.{Exhausted, Contained, Apart, Across}
+use Rattle.search.specs.declared.piece.Piece.{Piece}
+use Rattle.search.specs.Piece.{AreHalves}
+use Rattle.search.specs.declared.visit.Visit.TheVariants.{Ended, Exhausted, Contained, Apart, Across}
 use Rattle.search.specs.Box.{in_box, apart_from}
 use Rattle.search.specs.Verdict.{reported, inside}
 use Rattle.search.specs.Walk.{goes_on, count_of, looked, noted, after, visit_at, walked}
 use Rattle.search.specs.Search.{ends_inside}
-use Rattle.search.specs.Inner.{inside_count, TellsInside}
-use Rattle.search.proofs.Visits.{Going, clear, marked, Looks, Within, Separate, Crossing, Rules, walk_keeps, visit_exhausted, visit_contained, visit_apart, visit_across, walked_by, further, further_limit, further_halves}
+use Rattle.search.specs.Inner.{count_inside}
+use Rattle.search.proofs.Visits.{Going, clear, marked, Looks, Rules, looks_at, by_visit, visit_looks, walk_keeps, visit_contained, visit_apart, walked_by, further, further_limit}
+use Rattle.search.proofs.PieceWalk.{walked_of, visited, both_halves}
 use Rattle.search.proofs.Counts.{looked-count, walked_budget}
 use Rattle.search.proofs.Accepted.{Facts, searched-accepted}
 
@@ -42,34 +45,31 @@ pub noted-inside : (d i : ℕ) {v : Verdict} → Going v → (reported (noted d 
 noted-inside d i clear e = eqb-false 4 1 refl e
 noted-inside d i marked e = eqb-false 4 1 refl e
 
--- the count of a verdict Inside, and of any other
-inside-counted : (v : Verdict) → (reported v).number ≡ inside → inside_count v ≡ count_of v
-inside-counted Refused h = refl
-inside-counted (Inside n) h = refl
-inside-counted (Outside d i n) h = absurd (eqb-false 2 1 refl h)
-inside-counted (Spent n) h = absurd (eqb-false 3 1 refl h)
-inside-counted (Undecided d i n) h = absurd (eqb-false 4 1 refl h)
+-- a verdict with no count is not Inside, and one with a count is
+inside-counts : (v : Verdict) → count_inside v ≡ None → (reported v).number ≡ inside → ⊥
+inside-counts Refused h e = eqb-false 0 1 refl e
+inside-counts (Inside n) h e = false≢true (sym (ap is_some h))
+inside-counts (Outside d i n) h e = eqb-false 2 1 refl e
+inside-counts (Spent n) h e = eqb-false 3 1 refl e
+inside-counts (Undecided d i n) h e = eqb-false 4 1 refl e
 
-not-inside : (v : Verdict) → ((reported v).number ≡ inside → ⊥) → inside_count v ≡ 0
+not-inside : (v : Verdict) → ((reported v).number ≡ inside → ⊥) → count_inside v ≡ None
 not-inside Refused h = refl
 not-inside (Inside n) h = absurd (h refl)
 not-inside (Outside d i n) h = refl
 not-inside (Spent n) h = refl
 not-inside (Undecided d i n) h = refl
 
-is_inside : (v : Verdict) (m : ℕ) → m ≡ inside_count v → (m ≡ 0 → ⊥) → v ≡ Inside m
-is_inside Refused m e h = absurd (h e)
-is_inside (Inside n) m e h = ap Inside (sym e)
-is_inside (Outside d i n) m e h = absurd (h e)
-is_inside (Spent n) m e h = absurd (h e)
-is_inside (Undecided d i n) m e h = absurd (h e)
-
-count-within : (v : Verdict) → inside_count v ≤ count_of v
-count-within Refused = omega arith
-count-within (Inside n) = le_refl n
-count-within (Outside d i n) = omega arith
-count-within (Spent n) = omega arith
-count-within (Undecided d i n) = omega arith
+is_inside : (v : Verdict) (n : ℕ) → Some n ≡ count_inside v → v ≡ Inside n
+is_inside Refused n e = absurd (false≢true (sym (ap is_some e)))
+is_inside (Inside m) n e = ap Inside (ap count_in (sym e))
+  where
+    count_in : Option ℕ → ℕ
+    count_in None = 0
+    count_in (Some x) = x
+is_inside (Outside d i m) n e = absurd (false≢true (sym (ap is_some e)))
+is_inside (Spent m) n e = absurd (false≢true (sym (ap is_some e)))
+is_inside (Undecided d i m) n e = absurd (false≢true (sym (ap is_some e)))
 
 module _ (box : Rect) (budget : ℕ) where
   -- a walk that ends Inside was so before, with a smaller count
@@ -92,61 +92,59 @@ module _ (box : Rect) (budget : ℕ) where
   keeps : (m : ℕ) (piece : Curve) (d i : ℕ) (v : Verdict) → Keeps v (walked box budget m piece d i v)
   keeps = walk_keeps box budget (λ m piece d i v u. Keeps v u) keeps_rules
 
-  -- once a walk that has looked at a piece is not Inside, it does not end Inside
-  none_after :
-      (m m' : ℕ) (p p' : Curve) (d i d' i' n : ℕ) → inside_count (walked box budget m p d i (Inside (n + 1))) ≡ 0 →
-      inside_count (walked box budget m' p' d' i' (walked box budget m p d i (Inside (n + 1)))) ≡ 0
-  none_after m m' p p' d i d' i' n h =
-      not-inside (walked box budget m' p' d' i' half) (λ e.
-      let (half-inside, _) = keeps m' p' d' i' half e in
-      let (_, grown) = keeps m p d i (Inside (n + 1)) half-inside in
-      omega (arith, grown, inside-counted half half-inside, h))
-    where
-      half : Verdict
-      half = walked box budget m p d i (Inside (n + 1))
+  -- once a walk is not Inside, it does not end Inside
+  none_after : (p : Piece) (v : Verdict) → count_inside v ≡ None → count_inside (walked_of box budget p v) ≡ None
+  none_after p v h = not-inside (walked_of box budget p v) (λ e. inside-counts v h (keeps p.below p.curve p.depth p.index v e).0)
 
   -- ---- the walk of a piece, visit by visit
 
-  module _ (below : ℕ) (piece : Curve) (before : ℕ) where
-    pub tells_spent : before ≡ budget → TellsInside box budget below piece before 0
-    tells_spent e = record { told = λ d i. ap inside_count (walked_by box budget below piece d i (Inside before) Exhausted (visit_exhausted box budget piece (Inside before) clear e)) }
+  module _ (p : Piece) (before : ℕ) where
+    told : (s : Visit) → s ≡ visit_at box budget p.curve (Inside before) → count_inside (after s p.depth p.index (Inside before) (further box budget p.below p.curve p.depth p.index)) ≡ count_inside (walked_of box budget p (Inside before))
+    told s e = ap count_inside (visited box budget p (Inside before) s e)
 
-    module _ (room : before ≡ budget → ⊥) where
-      looks : Looks budget (Inside before)
-      looks = record { going = clear; below = room }
+    pub told_contained : Contained ≡ visit_at box budget p.curve (Inside before) → Some (before + 1) ≡ count_inside (walked_of box budget p (Inside before))
+    told_contained e = told Contained e
 
-      pub tells_contained : Within box piece → TellsInside box budget below piece before (before + 1)
-      tells_contained w = record { told = λ d i. ap inside_count (walked_by box budget below piece d i (Inside before) Contained (visit_contained box budget piece (Inside before) looks w)) }
+    -- a walk that is Inside has not ended
+    not_ended : Ended ≡ visit_at box budget p.curve (Inside before) → ⊥
+    not_ended e = subst (λ (s : Visit). T (not (is_ended s))) (sym e) (by_visit box budget (λ s. T (not (is_ended s))) p.curve (Inside before) (λ h. false≢true (sym h)) (λ g h. tt) (λ l h. tt) (λ l h. tt) (λ l h. tt))
+      where
+        is_ended : Visit → Bool
+        is_ended Ended = true
+        is_ended Exhausted = false
+        is_ended Contained = false
+        is_ended Apart = false
+        is_ended Across = false
 
-      pub tells_apart : Separate box piece → TellsInside box budget below piece before 0
-      tells_apart w = record { told = λ d i. ap inside_count (walked_by box budget below piece d i (Inside before) Apart (visit_apart box budget piece (Inside before) looks w)) }
+    pub told_over : (s : Visit) → s ≡ visit_at box budget p.curve (Inside before) → (s ≡ Ended) ⊎ ((s ≡ Exhausted) ⊎ (s ≡ Apart)) → None ≡ count_inside (walked_of box budget p (Inside before))
+    told_over s e (inl h) = absurd (not_ended (sym h ∙ e))
+    told_over s e (inr (inl h)) = told Exhausted (sym h ∙ e)
+    told_over s e (inr (inr h)) = told Apart (sym h ∙ e)
 
-      across : Crossing box piece → (d i : ℕ) → further box budget below piece d i (Inside (before + 1)) ≡ walked box budget below piece d i (Inside before)
-      across w d i = walked_by box budget below piece d i (Inside before) Across (visit_across box budget piece (Inside before) looks w)
+    -- where it lies across the edge or in the box, there is room for it
+    pub told_room : (s : Visit) → T (looks_at s) → s ≡ visit_at box budget p.curve (Inside before) → before ≤ budget → before + 1 ≤ budget
+    told_room s t e h = let l = visit_looks box budget p.curve (Inside before) s (sym e) t in let b = l.below in omega (arith, b, h)
 
-      pub tells_limit : Crossing box piece → below ≡ 0 → TellsInside box budget below piece before 0
-      tells_limit w e = record { told = λ d i. ap inside_count (further_limit box budget below piece d i (Inside (before + 1)) e ∙ across w d i) }
+    module _ (e : Across ≡ visit_at box budget p.curve (Inside before)) where
+      pub told_limit : p.below ≡ 0 → None ≡ count_inside (walked_of box budget p (Inside before))
+      told_limit z = ap count_inside (further_limit box budget p.below p.curve p.depth p.index (Inside (before + 1)) z ∙ visited box budget p (Inside before) Across e)
 
-      -- both halves, whatever the first tells
-      module _ (w : Crossing box piece) (deeper : below ≡ 0 → ⊥) (cut : Subdivision) (e : cut ≡ subdivided piece 1 2) (half : ℕ) (left : TellsInside box budget (below - 1) cut.left (before + 1) half) where
-        halves : (d i : ℕ) → walked box budget (below - 1) cut.right (d + 1) (i * 2 + 1) (walked box budget (below - 1) cut.left (d + 1) (i * 2) (Inside (before + 1))) ≡ walked box budget below piece d i (Inside before)
-        halves d i = further_halves box budget below piece d i (Inside (before + 1)) deeper cut e (Inside (before + 1)) refl _ refl ∙ across w d i
+      -- by its halves
+      module _ (l r : Piece) (cut : AreHalves p l r) where
+        both : walked_of box budget r (walked_of box budget l (Inside (before + 1))) ≡ walked_of box budget p (Inside before)
+        both = both_halves box budget p l r cut (Inside (before + 1)) ∙ visited box budget p (Inside before) Across e
 
-        pub tells_none : half ≡ 0 → TellsInside box budget below piece before 0
-        tells_none z = record {
-          told = λ d i. sym (none_after (below - 1) (below - 1) cut.left cut.right (d + 1) (i * 2) (d + 1) (i * 2 + 1) before (sym (left.told (d + 1) (i * 2)) ∙ z)) ∙ ap inside_count (halves d i);
-        }
+        pub told_none : None ≡ count_inside (walked_of box budget l (Inside (before + 1))) → None ≡ count_inside (walked_of box budget p (Inside before))
+        told_none h = sym (none_after r (walked_of box budget l (Inside (before + 1))) (sym h)) ∙ ap count_inside both
 
-        pub tells_both : (half ≡ 0 → ⊥) → (r : ℕ) → TellsInside box budget (below - 1) cut.right half r → TellsInside box budget below piece before r
-        tells_both some r right = record {
-          told = λ d i.
-              right.told (d + 1) (i * 2 + 1)
-              ∙ ap (λ (v : Verdict). inside_count (walked box budget (below - 1) cut.right (d + 1) (i * 2 + 1) v)) (sym (is_inside _ half (left.told (d + 1) (i * 2)) some)) ∙ ap inside_count (halves d i);
-        }
+        pub told_both :
+            (half : ℕ) (n : Option ℕ) → Some half ≡ count_inside (walked_of box budget l (Inside (before + 1))) → n ≡ count_inside (walked_of box budget r (Inside half)) →
+            n ≡ count_inside (walked_of box budget p (Inside before))
+        told_both half n h k = k ∙ ap (λ (v : Verdict). count_inside (walked_of box budget r v)) (sym (is_inside _ half h)) ∙ ap count_inside both
 
         -- the first half's count is within the budget
-        pub half_within : before + 1 ≤ budget → half ≤ budget
-        half_within l = omega (arith, left.told 0 0, count-within (walked box budget (below - 1) cut.left 0 0 (Inside (before + 1))), walked_budget box budget (below - 1) cut.left 0 0 (Inside (before + 1)) l)
+        pub half_within : (half : ℕ) → before + 1 ≤ budget → Some half ≡ count_inside (walked_of box budget l (Inside (before + 1))) → half ≤ budget
+        half_within half m h = subst (λ (v : Verdict). count_of v ≤ budget) (is_inside _ half h) (walked_budget box budget l.below l.curve l.depth l.index (Inside (before + 1)) m)
 
 -- ---- whether a walk ends Inside
 
@@ -155,16 +153,16 @@ module _ (c : Curve) (box : Rect) (depth budget : ℕ) where
   unfolding ends_inside
   ends_by_walk f = ap (λ (a : SearchAnswer). eqb (reported a.verdict).number inside) (searched-accepted c box depth budget f)
 
-  -- it does exactly if the count as one Inside is not 0
-  pub ends-told : Facts c box depth budget → (r : ℕ) → TellsInside box budget depth c 0 r → not (eqb r 0) ≡ ends_inside c box depth budget
-  ends-told f r t = ap (λ (n : ℕ). not (eqb n 0)) (t.told 0 0) ∙ by_verdict (walked box budget depth c 0 0 (Inside 0)) (keeps box budget depth c 0 0 (Inside 0)) ∙ sym (ends_by_walk f)
+  -- it does exactly if there is a count as one Inside
+  pub ends-told : Facts c box depth budget → (r : Option ℕ) → r ≡ count_inside (walked box budget depth c 0 0 (Inside 0)) → is_some r ≡ ends_inside c box depth budget
+  ends-told f r t = ap is_some t ∙ by_verdict (walked box budget depth c 0 0 (Inside 0)) ∙ sym (ends_by_walk f)
     where
-      by_verdict : (v : Verdict) → Keeps box budget (Inside 0) v → not (eqb (inside_count v) 0) ≡ eqb (reported v).number inside
-      by_verdict Refused h = refl
-      by_verdict (Inside n) h = let (_, grown) = h refl in ap not (ne_eqb n 0 (λ e. omega (arith, e, grown)))
-      by_verdict (Outside d i n) h = refl
-      by_verdict (Spent n) h = refl
-      by_verdict (Undecided d i n) h = refl
+      by_verdict : (v : Verdict) → is_some (count_inside v) ≡ eqb (reported v).number inside
+      by_verdict Refused = refl
+      by_verdict (Inside n) = refl
+      by_verdict (Outside d i n) = refl
+      by_verdict (Spent n) = refl
+      by_verdict (Undecided d i n) = refl
 
   -- and the first look may tell
   first_look : (s : Visit) → visit_at box budget c (Inside 0) ≡ s → Facts c box depth budget → ends_inside c box depth budget ≡ eqb (reported (after s 0 0 (Inside 0) (further box budget depth c 0 0))).number inside

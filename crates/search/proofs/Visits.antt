@@ -1,14 +1,12 @@
 -- The walk by its visits: what each visit says of the verdict and the span before it, and an induction over the walk by the rules of document 01.
 -- Assumes nothing.
-use mathlib.Core.Path.{◌≡◌, refl, sym, ap, ap₂, ◌∙◌, subst}
+use mathlib.Core.Path.{◌≡◌, refl, sym, ap, ◌∙◌, subst}
 use mathlib.Core.Bool.{Bool, true, false, false≢true}
-use Prim.Native.Nat.{ℕ, zero, suc, ◌+◌, ◌*◌, ◌-◌}
-use native.Mathlib.Numerals.{sub-one}
+use Prim.Native.Nat.{ℕ, zero, suc, ◌+◌, ◌*◌}
 use lib.Dec.{T, eqb}
-use borrow.Author.Tests.{eqb-true, eqb-false, eq-eqb, ne_eqb}
+use borrow.Author.Tests.{eqb-true, eqb-false, ne_eqb}
 use Rattle.curve.specs.declared.Rect.{Rect}
 use Rattle.curve.specs.declared.Curve.{Curve}
-use Rattle.curve.specs.declared.Subdivision.{Subdivision}
 use Rattle.curve.specs.Calls.{bounded, subdivided}
 use Rattle.search.specs.declared.Verdict.{Verdict}
 use Rattle.search.specs.declared.Verdict.TheVariants.{Refused, Inside, Outside, Spent, Undecided}
@@ -93,9 +91,6 @@ module _ (box : Rect) where
     unfolding visit_at
     visit_ended piece v e = rw e
 
-    pub visit_exhausted : (piece : Curve) (v : Verdict) → Going v → count_of v ≡ budget → visit_at box budget piece v ≡ Exhausted
-    visit_exhausted piece v g e = visit_is piece v true _ _ g (eq-eqb (count_of v) budget e) refl refl
-
     pub visit_contained : (piece : Curve) (v : Verdict) → Looks budget v → Within piece → visit_at box budget piece v ≡ Contained
     visit_contained piece v l w = visit_is piece v false true _ l.going (ne_eqb (count_of v) budget l.below) w.contained refl
 
@@ -130,23 +125,6 @@ module _ (box : Rect) where
     pub further_limit : (below : ℕ) (piece : Curve) (depth index : ℕ) (v : Verdict) → below ≡ 0 → noted depth index v ≡ further below piece depth index v
     unfolding further
     further_limit below piece depth index v e = sym (ap (λ (m : ℕ). further m piece depth index v) e)
-
-    -- both halves of the pieces p, from the verdict v
-    halves : ℕ → Subdivision → ℕ → ℕ → Verdict → Verdict
-    halves m p depth index v =
-        walked box budget m p.right (depth + 1) (index * 2 + 1) (walked box budget m p.left (depth + 1) (index * 2) v)
-
-    pub further_halves :
-        (below : ℕ) (piece : Curve) (depth index : ℕ) (v : Verdict) → (below ≡ 0 → ⊥) →
-        (p : Subdivision) → p ≡ subdivided piece 1 2 → (w : Verdict) → w ≡ v →
-        (u : Verdict) → u ≡ walked box budget (below - 1) p.left (depth + 1) (index * 2) w →
-        walked box budget (below - 1) p.right (depth + 1) (index * 2 + 1) u ≡ further below piece depth index v
-    unfolding further halves
-    further_halves zero piece depth index v h p e w f u g = absurd (h refl)
-    further_halves (suc m) piece depth index v h p e w f u g =
-        ap (walked box budget (suc m - 1) p.right (depth + 1) (index * 2 + 1)) g
-        ∙ ap₂ (λ q x. halves (suc m - 1) q depth index x) e f
-        ∙ ap (λ (k : ℕ). halves k (subdivided piece 1 2) depth index v) (sub-one (suc m))
 
     -- what each rule says of the verdict before a piece's walk and the one after it
     pub record Rules (P : ℕ → Curve → ℕ → ℕ → Verdict → Verdict → Type 0) : Type 0 where

@@ -3,4 +3,6 @@ pub mod Verdict
 pub mod Box
 pub mod Walk
 pub mod Search
+pub mod Results
+pub mod Piece
 pub mod Inner

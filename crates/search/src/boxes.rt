@@ -1,4 +1,5 @@
 // How a rectangle lies to a box, and the check of a box by itself. A box's low sides lie inside it, its high sides outside.
+// Span and box are the two operands. Each test asks both coordinates; with the interval's test as a closure it would still be a line, and would need the closure's clause.
 ghost use Rattle.std.specs.Prelude.{◌≡◌};
 ghost use Rattle.search.specs.Box.{within, disjoint, in_box, apart_from, are_limits, is_box};
 

@@ -2,25 +2,25 @@
 // The call takes any record and any numbers, answers a refusal for bad input, and equals its definition in specs/Search.antt.
 #![tactic(auto)]
 
-ghost use Rattle.std.specs.Prelude.{◌≡◌, ◌+◌, ◌*◌};
-ghost use Rattle.curve.specs.Refusals.{sum_refusal};
-ghost use Rattle.search.specs.Search.{effort_refusal, box_refusal, search_refusal, searched};
-ghost use Rattle.search.specs.Walk.{walked};
-ghost use Rattle.search.specs.Inner.{Due};
+ghost use Rattle.std.specs.Prelude.{◌≡◌};
+ghost use Rattle.curve.specs.Reason.{refusal_of};
+ghost use Rattle.search.specs.Search.{effort_refusal, searched};
+ghost use Rattle.search.specs.Results.{as_search_answer};
 
-use curve::{
-    Curve, Rect, Refusal, curve_refusal, first_of, is_from_one_to, refused_unless, sum_refusal,
-};
+use curve::{Curve, Reason, Rect, Refusal, check_curve, check_sum, ensure, is_from_one_to};
 
 mod boxes;
+mod piece;
 mod verdicts;
 mod visit;
-
-use verdicts::{count_of, looked, noted};
-use visit::{Visit, visit_at};
+mod walk;
 
 // How a span lies to a box, and the check of a box by itself.
 pub use boxes::{apart_from, in_box, is_box};
+
+// The pieces of a walk, and what becomes of each.
+pub use piece::Piece;
+pub use visit::{Task, Visit};
 
 // The largest depth limit.
 pub const MAX_DEPTH: u32 = 12;
@@ -29,7 +29,8 @@ pub const MAX_DEPTH: u32 = 12;
 pub const MAX_BUDGET: u32 = 8191;
 
 // How a walk ended, with the number of pieces looked at; Outside and Undecided name a piece by its depth and index. A refused walk has nothing to tell.
-#[derive(Clone, Copy)]
+// Refused stays a case of it, since `searched` (specs/Search.antt) gives a refused walk this verdict.
+#[derive(Clone, Copy, PartialEq, Eq)]
 pub enum Verdict {
     Refused,
     Inside(u32),
@@ -38,102 +39,61 @@ pub enum Verdict {
     Undecided { depth: u32, index: u32, count: u32 },
 }
 
-// The answer of search.
+// The answer of search. It stays a refusal beside a verdict, since `searched` (specs/Search.antt) is an equation with it.
 #[derive(Clone, Copy)]
 pub struct SearchAnswer {
     pub refusal: Refusal,
     pub verdict: Verdict,
 }
 
-// Refusal 17: the deepest pieces' sum of steps, whatever degree and depth are.
-fn deepest_refusal(sum: u16, degree: u32, depth: u32) -> Refusal
-    ensures { result ≡ sum_refusal (sum + depth * degree) }
-{
-    sum_refusal(sum as u64 + depth as u64 * degree as u64)
-}
+impl From<Result<Verdict, Reason>> for SearchAnswer {
+    ghost from_gives = { λ r a. a ≡ as_search_answer r };
 
-// Refusals 8, 9 and 17.
-#[tactic(auto, unfolding(crate::specs::Search::effort_refusal))]
-pub fn effort_refusal(c: Curve, depth: u32, budget: u32) -> Refusal
-    ensures { result ≡ effort_refusal c depth budget }
-{
-    let first = refused_unless(depth <= MAX_DEPTH, 8, 0);
-    let second = refused_unless(is_from_one_to(budget, MAX_BUDGET), 9, 0);
-    first_of(
-        first,
-        first_of(second, deepest_refusal(c.sum, c.degree, depth)),
-    )
-}
-
-// Refusals 7 to 9 and 17.
-#[tactic(auto, unfolding(crate::specs::Search::box_refusal))]
-fn box_refusal(c: Curve, limits: Rect, depth: u32, budget: u32) -> Refusal
-    ensures { result ≡ box_refusal c limits depth budget }
-{
-    first_of(
-        refused_unless(is_box(limits), 7, 0),
-        effort_refusal(c, depth, budget),
-    )
-}
-
-// Refusals 1 to 3, then 7 to 9 and 17.
-#[tactic(auto, unfolding(crate::specs::Search::search_refusal))]
-fn search_refusal(c: Curve, limits: Rect, depth: u32, budget: u32) -> Refusal
-    ensures { result ≡ search_refusal c limits depth budget }
-{
-    first_of(curve_refusal(c), box_refusal(c, limits, depth, budget))
-}
-
-// The verdict once this piece is walked, with `below` depths below it, after the verdict on the pieces before it.
-fn walk(
-    piece: Curve,
-    limits: Rect,
-    budget: u32,
-    below: u32,
-    depth: u32,
-    index: u32,
-    before: Verdict,
-) -> Verdict
-    requires { Due below depth index budget before }
-    ensures { result ≡ walked limits budget below piece depth index before }
-{
-    match visit_at(piece, limits, budget, before) {
-        Visit::Ended => before,
-        Visit::Exhausted => Verdict::Spent(count_of(before)),
-        Visit::Contained => looked(before),
-        Visit::Apart => Verdict::Outside {
-            depth,
-            index,
-            count: count_of(before) + 1,
-        },
-        Visit::Across => {
-            let seen = looked(before);
-            if below == 0 {
-                return noted(depth, index, seen);
-            }
-            let pieces = curve::subdivide(piece, 1, 2);
-            let left = pieces.left;
-            let right = pieces.right;
-            let even = index * 2;
-            let half = walk(left, limits, budget, below - 1, depth + 1, even, seen);
-            walk(right, limits, budget, below - 1, depth + 1, even + 1, half)
+    fn from(walked: Result<Verdict, Reason>) -> SearchAnswer {
+        match walked {
+            Ok(verdict) => SearchAnswer {
+                refusal: Refusal::NONE,
+                verdict,
+            },
+            Err(e) => SearchAnswer {
+                refusal: e.into(),
+                verdict: Verdict::Refused,
+            },
         }
     }
 }
 
+// Refusals 8, 9 and 17, the last for the sum of steps of the deepest pieces. Depth and budget stay two numbers, as document 01's call takes them.
+#[tactic(auto, unfolding(crate::specs::Search::effort_refusal))]
+pub fn check_effort(c: Curve, depth: u32, budget: u32) -> Result<(), Reason>
+    ensures { refusal_of result ≡ effort_refusal c depth budget }
+{
+    ensure(depth <= MAX_DEPTH, Reason::Depth)?;
+    ensure(is_from_one_to(budget, MAX_BUDGET), Reason::Budget)?;
+    check_sum(u64::from(c.sum) + u64::from(depth) * u64::from(c.degree))?;
+    Ok(())
+}
+
 // Whether the curve stays in the box, looking at no more than budget pieces, none deeper than depth; refusals 1 to 3, 7 to 9 and 17.
+pub fn try_search(c: Curve, limits: Rect, depth: u32, budget: u32) -> Result<Verdict, Reason>
+    ensures { as_search_answer result ≡ searched c limits depth budget }
+{
+    check_curve(c)?;
+    ensure(is_box(limits), Reason::Limits { place: 0 })?;
+    check_effort(c, depth, budget)?;
+    let whole = Piece {
+        curve: c,
+        depth: 0,
+        index: 0,
+        below: depth,
+    };
+    let task = Task { limits, budget };
+    Ok(task.walk(&whole, Verdict::Inside(0)))
+}
+
+// The same as one record: the refusal's number and place, and the verdict.
 pub fn search(c: Curve, limits: Rect, depth: u32, budget: u32) -> SearchAnswer
     ensures { result ≡ searched c limits depth budget }
 {
-    let refusal = search_refusal(c, limits, depth, budget);
-    if refusal.number != 0 {
-        return SearchAnswer {
-            refusal,
-            verdict: Verdict::Refused,
-        };
-    }
-    SearchAnswer {
-        refusal,
-        verdict: walk(c, limits, budget, depth, 0, 0, Verdict::Inside(0)),
-    }
+    try_search(c, limits, depth, budget).into()
 }

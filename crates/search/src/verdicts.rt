@@ -5,67 +5,61 @@ ghost use Rattle.search.specs.Walk.{goes_on, count_of, looked, noted};
 
 use crate::Verdict;
 
-// Whether the walk goes on.
-pub fn goes_on(v: Verdict) -> bool
-    ensures { result ≡ goes_on v }
-{
-    match v {
-        Verdict::Inside(_) => true,
-        Verdict::Undecided { .. } => true,
-        Verdict::Outside { .. } => false,
-        Verdict::Spent(_) => false,
-        Verdict::Refused => false,
+impl Verdict {
+    // Whether the walk goes on.
+    pub(crate) fn goes_on(self) -> bool
+        ensures { result ≡ goes_on self }
+    {
+        match self {
+            Verdict::Inside(_) | Verdict::Undecided { .. } => true,
+            _ => false,
+        }
     }
-}
 
-// The number of pieces looked at.
-pub fn count_of(v: Verdict) -> u32
-    ensures { result ≡ count_of v }
-{
-    match v {
-        Verdict::Inside(count) => count,
-        Verdict::Undecided { count, .. } => count,
-        Verdict::Outside { count, .. } => count,
-        Verdict::Spent(count) => count,
-        Verdict::Refused => 0,
+    // The number of pieces looked at.
+    pub(crate) fn count(self) -> u32
+        ensures { result ≡ count_of self }
+    {
+        match self {
+            Verdict::Inside(count)
+            | Verdict::Spent(count)
+            | Verdict::Outside { count, .. }
+            | Verdict::Undecided { count, .. } => count,
+            Verdict::Refused => 0,
+        }
     }
-}
 
-// With one more piece looked at, if the walk goes on.
-pub fn looked(v: Verdict) -> Verdict
-    requires { count_of v < max_budget }
-    ensures { result ≡ looked v }
-{
-    match v {
-        Verdict::Inside(count) => Verdict::Inside(count + 1),
-        Verdict::Undecided {
-            depth,
-            index,
-            count,
-        } => Verdict::Undecided {
-            depth,
-            index,
-            count: count + 1,
-        },
-        Verdict::Outside { .. } => v,
-        Verdict::Spent(_) => v,
-        Verdict::Refused => v,
+    // With one more piece looked at, if the walk goes on.
+    pub(crate) fn looked(self) -> Verdict
+        requires { count_of self < max_budget }
+        ensures { result ≡ looked self }
+    {
+        match self {
+            Verdict::Inside(count) => Verdict::Inside(count + 1),
+            Verdict::Undecided {
+                depth,
+                index,
+                count,
+            } => Verdict::Undecided {
+                depth,
+                index,
+                count: count + 1,
+            },
+            _ => self,
+        }
     }
-}
 
-// With the piece noted, unless one was noted before it or the walk has ended.
-pub fn noted(depth: u32, index: u32, v: Verdict) -> Verdict
-    ensures { result ≡ noted depth index v }
-{
-    match v {
-        Verdict::Inside(count) => Verdict::Undecided {
-            depth,
-            index,
-            count,
-        },
-        Verdict::Undecided { .. } => v,
-        Verdict::Outside { .. } => v,
-        Verdict::Spent(_) => v,
-        Verdict::Refused => v,
+    // With the piece noted, unless one was noted before it or the walk has ended.
+    pub(crate) fn noted(self, depth: u32, index: u32) -> Verdict
+        ensures { result ≡ noted depth index self }
+    {
+        match self {
+            Verdict::Inside(count) => Verdict::Undecided {
+                depth,
+                index,
+                count,
+            },
+            _ => self,
+        }
     }
 }

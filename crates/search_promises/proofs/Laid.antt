@@ -16,7 +16,8 @@ use Rattle.ledger.proofs.Stretch.{Stretch, whole_stretch, joined, renamed}
 use Rattle.ledger.proofs.Steps.{left_stretch, right_stretch}
 use Rattle.search.specs.Search.{deepest_sum}
 use Rattle.search_promises.specs.Pieces.{half_of, piece_at}
-use Rattle.search_promises.proofs.Reached.{at_half, cut_room, reached}
+use Rattle.search_promises.proofs.Reached.{cut_room, reached}
+use Rattle.search.proofs.Cuts.{at_half}
 use Rattle.search_promises.proofs.Dyadic.{half, halving, half_rest, width, dyadic, dyadic_left, dyadic_right}
 
 pub record Laid (c : Curve) (depth index : ℕ) (piece : Curve) : Type 0 where

@@ -12,11 +12,8 @@ use Rattle.curve.proofs.Accepted.{accepted-most, most-accepted}
 use Rattle.curve.proofs.Answers.{subdivision, subdivided-accepted}
 use Rattle.curve.proofs.Pieces.{left-accepted, right-accepted, left-degree, right-degree, left-sum, right-sum}
 use Rattle.search.specs.Search.{deepest_sum}
+use Rattle.search.proofs.Cuts.{at_half}
 use Rattle.search_promises.specs.Pieces.{half_of, piece_at}
-
-pub at_half : AcceptedAt 1 2
-unfolding parameter_refusal
-at_half = refl
 
 -- a piece of a depth is accepted, of the curve's degree, and has a sum of so many cuts
 pub record Reached (c : Curve) (depth : ℕ) (piece : Curve) : Type 0 where

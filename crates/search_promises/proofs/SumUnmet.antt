@@ -25,8 +25,9 @@ use Rattle.search.specs.Search.{deepest_sum, effort_refusal, box_refusal, search
 use Rattle.search_promises.specs.Pieces.{half_of, piece_at}
 use Rattle.search_promises.specs.Promises.{NoSumInside}
 use Rattle.search.proofs.Accepted.{Effort, Facts, answer, effort_none, number_facts, searched-accepted, searched-refused, searched-refusal}
+use Rattle.search.proofs.Cuts.{at_half}
 use Rattle.search_promises.proofs.PastUnread.{visit_with}
-use Rattle.search_promises.proofs.Reached.{at_half, Reached, reached_whole, reached_half, cut_room, reached}
+use Rattle.search_promises.proofs.Reached.{Reached, reached_whole, reached_half, cut_room, reached}
 
 -- ---- curves that are equal but for their sums
 

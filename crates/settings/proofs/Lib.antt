@@ -1,5 +1,5 @@
 -- Laws of the definitions in specs/.
-pub mod Steps
+pub mod QueryFacts
+pub mod Lists
 pub mod Refused
 pub mod Answers
-pub mod Going

@@ -1,6 +1,6 @@
 -- What it means that a list's length, its boxes and the whole call are not refused.
 -- Assumes nothing.
-use mathlib.Core.Path.{◌≡◌, refl, ap, ◌∙◌}
+use mathlib.Core.Path.{◌≡◌, refl, sym, ap, ◌∙◌}
 use mathlib.Core.Bool.{Bool, true, false, ◌&&◌, cond}
 use mathlib.Core.List.{List, [], ◌∷◌}
 use Prim.Native.Nat.{ℕ, zero, suc, ◌≤◌, ◌<◌}
@@ -10,11 +10,15 @@ use lib.Dec.{T, leb, leb→le}
 use lib.ListN.{length, get_or}
 use Rattle.curve.specs.declared.Curve.{Curve}
 use Rattle.curve.specs.declared.Refusal.{Refusal}
-use Rattle.curve.specs.Refusals.{none, refusal, unless_at, curve_refusal}
-use Rattle.curve.proofs.Tests.{true_of, both, join, or_split, or_none, unless_holds}
+use Rattle.curve.specs.Refusals.{none, ◌or_else◌, refusal, unless_at, curve_refusal}
+use Rattle.curve.proofs.Tests.{true_of, both, join, or_split, unless_holds}
 use Rattle.curve.proofs.Accepted.{number-accepted}
 use Rattle.search.specs.Box.{is_box}
-use Rattle.search.proofs.Accepted.{effort_settled}
+use Rattle.search.specs.Search.{effort_refusal, search_refusal}
+use Rattle.search.proofs.Accepted.{Effort, effort_holds, effort_settled, facts_none}
+use Rattle.curve.proofs.Listed.{first_is, second_is}
+use Rattle.curve.specs.Reason.{listed}
+use Rattle.curve.specs.declared.reason.Reason.{Reason}
 use Rattle.settings.specs.declared.Setting.{Setting}
 use Rattle.settings.specs.Limits.{max_settings}
 use Rattle.settings.specs.Settings.{list_refusal, boxes_refusal, settings_refusal}
@@ -46,11 +50,56 @@ boxes_settled index (s ∷ rest) h =
 -- ---- the call
 
 module _ (c : Curve) (ss : List Setting) (depth budget : ℕ) where
-  pub settings_settled : (settings_refusal c ss depth budget).number ≡ 0 → settings_refusal c ss depth budget ≡ none
+  -- a reason to refuse it, where all that is tested before holds
+  pub length_is : (e : Reason) → listed e ≡ list_refusal (length ss) → listed e ≡ settings_refusal c ss depth budget
   unfolding settings_refusal
-  settings_settled h =
+  length_is e h = first_is e (list_refusal (length ss)) _ h
+
+  module _ (few : none ≡ list_refusal (length ss)) where
+    pub curve_is : (e : Reason) → listed e ≡ curve_refusal c → listed e ≡ settings_refusal c ss depth budget
+    unfolding settings_refusal
+    curve_is e h = first_is e (curve_refusal c) (boxes_refusal 0 ss or_else effort_refusal c depth budget) h ∙ second_is (list_refusal (length ss)) _ few
+
+    module _ (curve : none ≡ curve_refusal c) where
+      pub boxes_is : (e : Reason) → listed e ≡ boxes_refusal 0 ss → listed e ≡ settings_refusal c ss depth budget
+      unfolding settings_refusal
+      boxes_is e h =
+          first_is e (boxes_refusal 0 ss) (effort_refusal c depth budget) h ∙ second_is (curve_refusal c) (boxes_refusal 0 ss or_else effort_refusal c depth budget) curve
+          ∙ second_is (list_refusal (length ss)) _ few
+
+      pub effort_is : none ≡ boxes_refusal 0 ss → effort_refusal c depth budget ≡ settings_refusal c ss depth budget
+      unfolding settings_refusal
+      effort_is boxes =
+          second_is (boxes_refusal 0 ss) (effort_refusal c depth budget) boxes ∙ second_is (curve_refusal c) (boxes_refusal 0 ss or_else effort_refusal c depth budget) curve
+          ∙ second_is (list_refusal (length ss)) _ few
+
+  -- a call whose refusal has the number 0
+  parts :
+      (settings_refusal c ss depth budget).number ≡ 0 →
+      ((list_refusal (length ss)).number ≡ 0) × ((curve_refusal c).number ≡ 0) × ((boxes_refusal 0 ss).number ≡ 0) × ((effort_refusal c depth budget).number ≡ 0)
+  unfolding settings_refusal
+  parts h =
       let (list-zero, past-list) = or_split (list_refusal (length ss)) _ h in
       let (curve-zero, past-curve) = or_split (curve_refusal c) _ past-list in
       let (boxes-zero, effort-zero) = or_split (boxes_refusal 0 ss) _ past-curve in
-      or_none (list_refusal (length ss)) _ (list_holds (length ss) list-zero).0 ∙ or_none (curve_refusal c) _ (number-accepted c curve-zero)
-      ∙ or_none (boxes_refusal 0 ss) _ (boxes_settled 0 ss boxes-zero) ∙ effort_settled c depth budget effort-zero
+      (list-zero, curve-zero, boxes-zero, effort-zero)
+
+  pub settings_settled : (settings_refusal c ss depth budget).number ≡ 0 → settings_refusal c ss depth budget ≡ none
+  settings_settled h =
+      let (list-zero, curve-zero, boxes-zero, effort-zero) = parts h in
+      sym (sym (effort_settled c depth budget effort-zero)
+      ∙ effort_is (sym (list_holds (length ss) list-zero).0) (sym (number-accepted c curve-zero)) (sym (boxes_settled 0 ss boxes-zero)))
+
+  -- so no walk over a record's box is refused
+  module _ (accepted : settings_refusal c ss depth budget ≡ none) where
+    zeros : ((list_refusal (length ss)).number ≡ 0) × ((curve_refusal c).number ≡ 0) × ((boxes_refusal 0 ss).number ≡ 0) × ((effort_refusal c depth budget).number ≡ 0)
+    zeros = parts (ap (λ (r : Refusal). r.number) accepted)
+
+    pub effort_accepted : Effort c depth budget
+    effort_accepted = let (list-zero, curve-zero, boxes-zero, effort-zero) = zeros in effort_holds c depth budget effort-zero
+
+    pub walk_accepted : (d : Setting) (k : ℕ) → k < length ss → search_refusal c (get_or ss k d).limits depth budget ≡ none
+    walk_accepted d k l =
+        let (list-zero, curve-zero, boxes-zero, effort-zero) = zeros in
+        facts_none c (get_or ss k d).limits depth budget
+        (record { accepted = number-accepted c curve-zero; sides = boxes_good 0 ss boxes-zero d k l; effort = effort_accepted })

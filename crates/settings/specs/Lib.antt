@@ -1,4 +1,4 @@
 pub mod Limits
 pub mod Choice
 pub mod Settings
-pub mod Inner
+pub mod Results

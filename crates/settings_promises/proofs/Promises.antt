@@ -30,11 +30,9 @@ use Rattle.settings.specs.declared.Choice.TheVariants.{Refused}
 use Rattle.settings.specs.declared.ChoiceAnswer.{ChoiceAnswer}
 use Rattle.settings.specs.Choice.{Report, reported, fitting}
 use Rattle.settings.specs.Settings.{list_refusal, boxes_refusal, settings_refusal, fits, first_of, chosen}
-use Rattle.settings.specs.Inner.{answer}
 use Rattle.settings_promises.specs.Promises.{record_at, EndsInside, FirstFitting, First, NoneExactly, SafeToHold, LaterUnread, PastUnread, NoSumInside}
-use Rattle.settings.proofs.Answers.{chosen-accepted, chosen-refused, chosen-refusal}
-use Rattle.settings.proofs.Refused.{settings_settled}
-use Rattle.settings.proofs.Going.{effort_accepted, walk_accepted}
+use Rattle.settings.proofs.Answers.{answer, chosen-accepted, chosen-refused, chosen-refusal}
+use Rattle.settings.proofs.Refused.{settings_settled, effort_accepted, walk_accepted}
 use Rattle.settings_promises.proofs.Searching.{Found, found, none_found, nothing_found, same_found}
 use Rattle.settings_promises.proofs.Searching as Searching
 

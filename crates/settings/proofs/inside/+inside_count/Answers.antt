@@ -1,69 +1,46 @@
 -- `inside_count` meets its contract: it tells what the definition's walk tells.
-use Rattle.std.proofs.Common.{◌≡◌, true, false, sym, ap, ◌∙◌, arith}
-use Rattle.curve.specs.declared.Rect.{Rect}
-use Rattle.curve.specs.declared.Curve.{Curve}
-use Rattle.curve.specs.declared.BoundingRect.{BoundingRect}
-use Rattle.curve.specs.Calls.{bounded}
-use Rattle.search.specs.Box.{in_box, apart_from}
-use Rattle.search.proofs.Visits.{Within, Separate, Crossing}
-use Rattle.search.proofs.InsideWalk.{tells_spent, tells_contained, tells_apart, tells_limit, tells_none, tells_both, half_within}
+use Rattle.std.proofs.Common.{◌∙◌, arith}
+use Rattle.search.specs.declared.visit.Visit.TheVariants.{Across}
+use Rattle.search.proofs.InsideWalk.{told_contained, told_room, told_limit, told_over, told_none, told_both, half_within}
 use Rattle.settings.proofs.inside.+inside_count.Goals as goal
 
--- how the span lies to the box, as the calls tell it
-module _ (box : Rect) (piece : Curve) (e : BoundingRect) (is : e ≡ bounded piece) where
-  within : true ≡ in_box e.rect box → Within box piece
-  within h = record { contained = ap (λ (x : BoundingRect). in_box x.rect box) (sym is) ∙ sym h }
+pub returns-in-Contained : goal.returns-in-Contained
+returns-in-Contained t c = let a = c.args in told_contained a.task.limits a.task.budget a.piece.now a.before c.in-Contained.ensures
 
-  separate : false ≡ in_box e.rect box → true ≡ apart_from e.rect box → Separate box piece
-  separate h k = record { outside = ap (λ (x : BoundingRect). in_box x.rect box) (sym is) ∙ sym h; apart = ap (λ (x : BoundingRect). apart_from x.rect box) (sym is) ∙ sym k }
-
-  crossing : false ≡ in_box e.rect box → false ≡ apart_from e.rect box → Crossing box piece
-  crossing h k = record { outside = ap (λ (x : BoundingRect). in_box x.rect box) (sym is) ∙ sym h; meeting = ap (λ (x : BoundingRect). apart_from x.rect box) (sym is) ∙ sym k }
-
-pub returns-then-before-budget : goal.returns-then-before-budget
-returns-then-before-budget t c = let a = c.args in tells_spent a.limits a.budget a.below a.piece a.before c.if-before-budget.true
-
-pub returns-then-in_box : goal.returns-then-in_box
-returns-then-in_box t c =
+pub returns-in_err-left-in-Across : goal.returns-in_err-left-in-Across
+returns-in_err-left-in-Across t c =
     let a = c.args in
-    tells_contained a.limits a.budget a.below a.piece a.before c.if-before-budget.false
-    (within a.limits a.piece c.bounds.result c.bounds.ensures c.if-in_box.ensures)
-
-pub returns-then-apart_from : goal.returns-then-apart_from
-returns-then-apart_from t c =
-    let a = c.args in
-    tells_apart a.limits a.budget a.below a.piece a.before c.if-before-budget.false
-    (separate a.limits a.piece c.bounds.result c.bounds.ensures c.if-in_box.ensures c.if-apart_from.ensures)
-
-pub returns-then-below-eq0 : goal.returns-then-below-eq0
-returns-then-below-eq0 t c =
-    let a = c.args in
-    tells_limit a.limits a.budget a.below a.piece a.before c.if-before-budget.false
-    (crossing a.limits a.piece c.bounds.result c.bounds.ensures c.if-in_box.ensures c.if-apart_from.ensures) c.if-below-eq0.true
-
-pub returns-then-half-eq0 : goal.returns-then-half-eq0
-returns-then-half-eq0 t c =
-    let a = c.args in
-    tells_none a.limits a.budget a.below a.piece a.before c.if-before-budget.false
-    (crossing a.limits a.piece c.bounds.result c.bounds.ensures c.if-in_box.ensures c.if-apart_from.ensures) c.if-below-eq0.false
-    c.subdivide-pieces.result c.subdivide-pieces.ensures c.inside_count-half.result c.inside_count-half.ensures c.if-half-eq0.true
+    c.from_residual.ensures ∙ told_limit a.task.limits a.task.budget a.piece.now a.before c.in-Across.ensures c.in_err-left-in-Across.ensures
 
 pub inside_count-requires : goal.inside_count-requires
 inside_count-requires t c =
     let a = c.args in (
-      omega arith,
-      (
-        half_within a.limits a.budget a.below a.piece a.before c.if-before-budget.false
-            (crossing a.limits a.piece c.bounds.result c.bounds.ensures c.if-in_box.ensures c.if-apart_from.ensures) c.if-below-eq0.false
-            c.subdivide-pieces.result c.subdivide-pieces.ensures c.inside_count-half.result c.inside_count-half.ensures (omega arith),
-        c.requires.budget_le_max_budget,
-      ),
+      omega (arith, c.in_ok-left-in-Across.ensures.former.left),
+      told_room a.task.limits a.task.budget a.piece.now a.before Across tt c.in-Across.ensures c.requires,
     )
 
-pub returns : goal.returns
-returns t c =
+pub returns-in_err-half-in-Across : goal.returns-in_err-half-in-Across
+returns-in_err-half-in-Across t c =
     let a = c.args in
-    tells_both a.limits a.budget a.below a.piece a.before c.if-before-budget.false
-    (crossing a.limits a.piece c.bounds.result c.bounds.ensures c.if-in_box.ensures c.if-apart_from.ensures) c.if-below-eq0.false
-    c.subdivide-pieces.result c.subdivide-pieces.ensures c.inside_count-half.result c.inside_count-half.ensures
-    c.if-half-eq0.false c.inside_count.result c.inside_count.ensures
+    let h = c.in_ok-left-in-Across in
+    c.from_residual-in_err-half-in-Across.ensures
+    ∙ told_none a.task.limits a.task.budget a.piece.now a.before c.in-Across.ensures h.left h.right h.ensures c.in_err-half-in-Across.ensures
+
+pub inside_count-requires-in-Across : goal.inside_count-requires-in-Across
+inside_count-requires-in-Across t c =
+    let a = c.args in
+    let h = c.in_ok-left-in-Across in (
+      omega (arith, h.ensures.latter.left),
+      half_within a.task.limits a.task.budget a.piece.now a.before c.in-Across.ensures h.left h.right h.ensures c.in_ok-half-in-Across.half
+          (told_room a.task.limits a.task.budget a.piece.now a.before Across tt c.in-Across.ensures c.requires) c.in_ok-half-in-Across.ensures,
+    )
+
+pub returns-in_ok-half-in-Across : goal.returns-in_ok-half-in-Across
+returns-in_ok-half-in-Across t c =
+    let a = c.args in
+    let h = c.in_ok-left-in-Across in
+    told_both a.task.limits a.task.budget a.piece.now a.before c.in-Across.ensures h.left h.right h.ensures c.in_ok-half-in-Across.half c.inside_count-in-Across.result
+    c.in_ok-half-in-Across.ensures c.inside_count-in-Across.ensures
+
+pub returns-in-Ended : goal.returns-in-Ended
+returns-in-Ended t c = let a = c.args in told_over a.task.limits a.task.budget a.piece.now a.before c.visit.result c.visit.ensures c.in-Ended.is

@@ -1,5 +1,5 @@
 -- The walk's measure is the number of depths below the piece.
-use Rattle.search.proofs.+walk.Given as goal
+use Rattle.search.proofs.visit.Task.+walk.Given as goal
 
 abbrev pub decreases-walk : goal.decreases-walk
-decreases-walk l = l.below
+decreases-walk l = l.piece.now.below
