@@ -105,17 +105,17 @@ enum jusqani_refusal { JUSQANI_REFUSALS(JUSQANI_REFUSED) };
  * measures them and fails where one takes more. Other processors differ.
  */
 #define JUSQANI_STACK(X) \
-    X(panel, 704) \
-    X(evaluate, 427) \
-    X(evaluate_sixteenths, 600) \
-    X(subdivide, 1352) \
-    X(elevate, 472) \
+    X(panel, 1032) \
+    X(evaluate, 716) \
+    X(evaluate_sixteenths, 584) \
+    X(subdivide, 1432) \
+    X(elevate, 561) \
     X(bounds, 440) \
-    X(search, 11736) \
-    X(choose_setting, 8184) \
+    X(search, 8040) \
+    X(choose_setting, 7512) \
     X(enclose, 56) \
-    X(read_card, 704) \
-    X(write_card, 520)
+    X(read_card, 728) \
+    X(write_card, 504)
 
 /* The highest degree of a curve, the steps in an ohm, and the most records of a list of settings. */
 #define JUSQANI_MAX_DEGREE 8

@@ -2,24 +2,16 @@
 // What is printed is computed by card_report::report; the program itself only reads and writes.
 #![tactic(auto)]
 
-use card_report::{MOST_SHOWN, report};
+use arrayvec::ArrayVec;
+use card_report::{MOST_BYTES, MOST_SHOWN, report};
 use std::io;
 use std::io::{Read, Write};
 
-// The most bytes that are read.
-const MOST_READ: usize = 4096;
-
 fn main(rt: HostRuntime) -> io::Result<()> {
-    let mut input = [0u8; MOST_READ];
-    let mut size = 0;
-    while size < MOST_READ {
-        let n = rt.stdin().read(&mut input[size..])?;
-        if n == 0 {
-            break;
-        }
-        size += n;
-    }
+    // At most so many bytes are read, into memory of fixed size.
+    let mut input = ArrayVec::<u8, MOST_BYTES>::new();
+    io::copy(&mut rt.stdin().take(MOST_BYTES as u64), &mut input)?;
     let mut shown = [0u8; MOST_SHOWN];
-    let n = report(&input[..size], &mut shown);
+    let n = report(&input, &mut shown);
     rt.stdout().write_all(&shown[..n])
 }

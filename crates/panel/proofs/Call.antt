@@ -1,34 +1,51 @@
 -- The panel call's refusal and buffer, case by case, in the order of the code's tests.
 -- Assumes nothing.
-use mathlib.Core.Path.{◌≡◌, sym, ap, ◌∙◌}
+use Rattle.std.specs.Prelude.{Ok, Err}
+use mathlib.Core.Path.{◌≡◌, sym, ap, ◌∙◌, subst}
 use mathlib.Core.Bool.{Bool, cond}
 use mathlib.Core.List.{List, ◌++◌}
-use Prim.Native.Nat.{ℕ, ◌≤◌, ◌<◌}
+use Prim.Native.Nat.{ℕ, ◌≤◌}
 use lib.Dec.{leb, eqb}
 use lib.ListN.{length, drop}
-use borrow.Author.Tests.{le-leb, lt-leb, eq-eqb, ne_eqb, leb-true}
+use borrow.Author.Tests.{eq-eqb, ne_eqb, leb-true}
+use Rattle.curve.specs.declared.Curve.{Curve}
 use Rattle.curve.specs.declared.Refusal.{Refusal}
-use Rattle.curve.specs.Refusals.{refusal, none, ◌or_else◌, parameter_refusal, Accepted, AcceptedAt, unless_at, unless_refused}
+use Rattle.curve.specs.declared.Evaluation.{Evaluation}
+use Rattle.curve.specs.declared.Reading.{Reading}
+use Rattle.curve.specs.declared.reason.Reason.{Reason}
+use Rattle.curve.specs.Reason.{listed}
+use Rattle.curve.specs.Refusals.{none, ◌or_else◌, parameter_refusal, Accepted, AcceptedAt, unless_at, unless_refused}
 use Rattle.curve.specs.Calls.{evaluated}
-use Rattle.curve.proofs.Refused.{or_first, or_second, number_passed}
+use Rattle.curve.specs.Results.{as_evaluation}
+use Rattle.curve.proofs.Refused.{number_passed}
 use Rattle.curve.proofs.Tests.{or_split}
 use Rattle.curve.proofs.Accepted.{number-accepted-at, call_parameter}
 use Rattle.curve.proofs.Answers.{evaluated-refusal}
+use Rattle.card_text.specs.declared.CardRead.{CardRead}
 use Rattle.card_text.specs.Reading.{card_refusal, read_card}
+use Rattle.card_text.specs.Results.{as_card_read}
 use Rattle.card_text.proofs.Accepting.{unless-zero}
 use Rattle.card_text.proofs.ReadingAnswer.{read-refusal, read-curve-accepted}
 use Rattle.panel.specs.Panel.{load_bytes, load_length, panel_refusal, panel_load, panel_bytes}
+use Rattle.curve.proofs.Listed.{listed_first}
 
 -- the curve of a card that is not refused is accepted
 pub card_accepted : (card : List ℕ) → (card_refusal card).number ≡ 0 → Accepted (read_card card).curve
 card_accepted card h = read-curve-accepted card (number_passed (sym (read-refusal card)) h)
 
+-- what a result of the reader says of the card's refusal
+read_ok : (card : List ℕ) {c : Curve} → as_card_read (Ok c) ≡ read_card card → card_refusal card ≡ none
+read_ok card h = sym (read-refusal card) ∙ ap (λ (x : CardRead). x.refusal) (sym h)
+
+read_err : (card : List ℕ) (e : Reason) → as_card_read (Err e) ≡ read_card card → listed e ≡ card_refusal card
+read_err card e h = ap (λ (x : CardRead). x.refusal) h ∙ read-refusal card
+
 module _ (card : List ℕ) (num den : ℕ) where
-  -- so evaluation refuses the parameter alone
-  pub refusal-read : (card_refusal card).number ≡ 0 → (evaluated (read_card card).curve num den).refusal ≡ parameter_refusal num den
-  refusal-read h =
-      let c = (read_card card).curve in
-      evaluated-refusal c num den ∙ call_parameter c num den (card_accepted card h)
+  -- once the card is read, evaluation refuses the parameter alone
+  refusal-read : {c : Curve} → as_card_read (Ok c) ≡ read_card card → parameter_refusal num den ≡ (evaluated c num den).refusal
+  refusal-read {c} h =
+      let a : Accepted c = subst Accepted (ap (λ (x : CardRead). x.curve) (sym h)) (card_accepted card (ap (λ (r : Refusal). r.number) (read_ok card h))) in
+      sym (evaluated-refusal c num den ∙ call_parameter c num den a)
 
   module _ (size : ℕ) where
     -- 12, or none
@@ -38,27 +55,25 @@ module _ (card : List ℕ) (num den : ℕ) where
     abbrev later : Refusal
     later = parameter_refusal num den or_else lack
 
-    pub refused_card : {r : Refusal} → r ≡ card_refusal card → (r.number ≡ 0 → ⊥) → r ≡ panel_refusal card num den size
+    -- what is refused by the result of each step
+    pub unread : (e : Reason) → as_card_read (Err e) ≡ read_card card → listed e ≡ panel_refusal card num den size
     unfolding panel_refusal
-    refused_card {r} e some = or_first r later some ∙ ap (λ (x : Refusal). x or_else later) e
+    unread e h = sym (listed_first e later) ∙ ap (λ (x : Refusal). x or_else later) (read_err card e h)
 
-    module _ (read : (card_refusal card).number ≡ 0) where
+    module _ {c : Curve} (read : as_card_read (Ok c) ≡ read_card card) where
       past_card : later ≡ panel_refusal card num den size
       unfolding panel_refusal
-      past_card = or_second (card_refusal card) later read
+      past_card = ap (λ (x : Refusal). x or_else later) (sym (read_ok card read))
 
-      pub refused-parameter : {r : Refusal} → r ≡ parameter_refusal num den → (r.number ≡ 0 → ⊥) → r ≡ panel_refusal card num den size
-      refused-parameter {r} e some = or_first r lack some ∙ ap (λ (x : Refusal). x or_else lack) e ∙ past_card
+      pub not_evaluated : (e : Reason) → as_evaluation (Err e) ≡ evaluated c num den → listed e ≡ panel_refusal card num den size
+      not_evaluated e h =
+          sym (listed_first e lack)
+          ∙ ap (λ (x : Refusal). x or_else lack) (ap (λ (x : Evaluation). x.refusal) h ∙ sym (refusal-read read))
+          ∙ past_card
 
-      module _ (at : (parameter_refusal num den).number ≡ 0) where
-        past-parameter : lack ≡ panel_refusal card num den size
-        past-parameter = or_second (parameter_refusal num den) lack at ∙ past_card
-
-        pub refused-short : size < load_length → refusal 12 load_length ≡ panel_refusal card num den size
-        refused-short h = ap (λ (b : Bool). unless_at b 12 load_length) (sym (lt-leb load_length size h)) ∙ past-parameter
-
-        pub refused_none : load_length ≤ size → none ≡ panel_refusal card num den size
-        refused_none h = ap (λ (b : Bool). unless_at b 12 load_length) (sym (le-leb load_length size h)) ∙ past-parameter
+      pub past_parameter : {r : Reading} → as_evaluation (Ok r) ≡ evaluated c num den → lack ≡ panel_refusal card num den size
+      past_parameter h =
+          ap (λ (x : Refusal). x or_else lack) (ap (λ (x : Evaluation). x.refusal) h ∙ sym (refusal-read read)) ∙ past_card
 
     -- number 0 says that none of them applies
     pub none-refused : (panel_refusal card num den size).number ≡ 0 → ((card_refusal card).number ≡ 0) × AcceptedAt num den × (load_length ≤ size)
@@ -83,7 +98,3 @@ module _ (card : List ℕ) (num den : ℕ) where
 
     pub written : r.number ≡ 0 → load_bytes (panel_load card num den) ++ drop load_length out ≡ panel_bytes card num den out
     written zero = ap bytes_if (sym (eq-eqb r.number 0 zero)) ∙ to_bytes
-
-    -- what a refused call answers and leaves
-    pub refused : (r.number ≡ 0 → ⊥) → (r.number ≡ (panel_refusal card num den (length out)).number) × (out ≡ panel_bytes card num den out)
-    refused some = (ap (λ (x : Refusal). x.number) e, kept some)

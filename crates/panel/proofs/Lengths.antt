@@ -1,8 +1,13 @@
--- A side has four bytes, so an interval has eight and a load sixteen.
+-- A side has four bytes, so an interval has eight and a load sixteen. And what two halves of some bytes are, written one after the other.
 -- Assumes nothing.
+use Rattle.std.proofs.lemmas.List.{drop_all}
 use mathlib.Core.Path.{◌≡◌, refl, ◌∙◌}
+use mathlib.Core.List.{List, ◌++◌, append-nil}
+use Prim.Native.Nat.{ℕ, ◌-◌}
+use native.Mathlib.Omega.{arith}
 use lib.IntN.{ℤ}
-use lib.ListN.{length, length-append}
+use lib.ListN.{length, take, drop, length-append}
+use lib.Seq.{take_at, drop_at}
 use Rattle.curve.specs.declared.Interval.{Interval}
 use Rattle.curve.specs.declared.Rect.{Rect}
 use Rattle.panel.specs.Panel.{bytes_of_side, interval_bytes, load_bytes, load_length}
@@ -20,3 +25,8 @@ unfolding load_bytes
 load_long p =
     length-append (interval_bytes p.resistance) (interval_bytes p.reactance)
     ∙ rw (interval_long p.resistance, interval_long p.reactance)
+
+pub halves : (n : ℕ) (first rest second : List ℕ) → length first ≡ n →
+    take n (first ++ rest) ++ (second ++ drop (length (first ++ rest) - n) (drop n (first ++ rest))) ≡ first ++ second
+halves n first rest second e =
+    rw (take_at first rest n e, drop_at first rest n e, drop_all (length (first ++ rest) - n) rest (omega (arith, length-append first rest)), append-nil)

@@ -1,5 +1,4 @@
 -- Laws of the definitions in specs/, and the promises.
-pub mod Bits
 pub mod Lengths
 pub mod Call
 pub mod Promises

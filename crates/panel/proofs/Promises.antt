@@ -24,7 +24,6 @@ use Rattle.card_text.specs.Reading.{read_card}
 use Rattle.card_text.proofs.ReadingAnswer.{read-refusal}
 use Rattle.panel.specs.Panel.{bits_of, bytes_of_side, interval_bytes, load_bytes, load_length, panel_refusal, panel_load, panel_bytes}
 use Rattle.panel.specs.Promises.{bits_at, signed_of, offset, PanelAnswers, PanelBytes, PanelKeeps}
-use Rattle.panel.proofs.Bits.{bits_small}
 use Rattle.panel.proofs.Call.{card_accepted, none-refused, kept, written}
 use Rattle.panel.proofs.Lengths.{load_long}
 
@@ -39,6 +38,11 @@ panel_answers card num den size h =
     }
 
 -- ---- reading back
+
+bits_small : (z : ℤ) → SFits w32 z → bits_of z < 2 ^ 32
+unfolding bits_of
+bits_small (pos n) f = let g = f.sfits in omega arith
+bits_small (negsuc n) f = omega arith
 
 -- a number with quotients and remainders by 256, three times over
 assembled : (b q r s x y z : ℕ) → q * 256 + x ≡ b → r * 256 + y ≡ q → s * 256 + z ≡ r → x + 256 * y + 65536 * z + 16777216 * s ≡ b

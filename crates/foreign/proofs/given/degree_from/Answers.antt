@@ -1,21 +1,15 @@
 -- `degree_from` meets its contract: the two tests pick the definition's cases.
-use mir.Syntax.{w32}
-use mir.ValLaws.{to_z-of_z}
-use Rattle.curve.specs.Limits.{max_degree}
-use Rattle.card_text.proofs.UpTo.{number_in, number_below, number_above}
+use Rattle.std.proofs.Common.{ap, ◌∙◌}
+use Rattle.rational.proofs.Machine.{back}
+use Rattle.card_text.specs.Reading.{degree_of}
+use Rattle.foreign.proofs.Numbers.{degree_fits, degree_above, degree_none}
 use Rattle.foreign.proofs.given.degree_from.Goals as goal
-use Rattle.foreign.proofs.given.degree_from.Goals.{else-number-ge0-via-then-number-ge0+else-number, else-number-ge0-via-else-number-ge0}
 
-pub returns-then-number : goal.returns-then-number
-returns-then-number c =
-    let e = to_z-of_z w32 c.args.number c.ranges.number in
-    rw e (number_in max_degree 0 c.args.number (rw e at c.if-number-ge0.true) (rw e at c.if-number.true))
+pub returns-in-Ok : goal.returns-in-Ok
+returns-in-Ok c = degree_fits _ _ c.in-Ok.ensures c.if-degree-le-MAX_DEGREE.true ∙ ap degree_of (back c.ranges.number)
 
-pub returns : goal.returns
-returns c =
-    let z = c.args.number in
-    let e = to_z-of_z w32 z c.ranges.number in
-    elim c.else-number-ge0.branch [
-      | else-number-ge0-via-then-number-ge0+else-number w ↦ number_above max_degree 0 z (rw e at w.if-number-ge0.true) (rw e at w.if-number.false)
-      | else-number-ge0-via-else-number-ge0 w ↦ number_below max_degree 0 z (rw e at w.if-number-ge0.false)
-    ]
+pub returns-in_default : goal.returns-in_default
+returns-in_default c = degree_above _ _ c.in-Ok.ensures c.if-degree-le-MAX_DEGREE.false ∙ ap degree_of (back c.ranges.number)
+
+pub returns-in_default-2 : goal.returns-in_default-2
+returns-in_default-2 c = degree_none _ c.in_default.ensures ∙ ap degree_of (back c.ranges.number)

@@ -1,18 +1,24 @@
--- `put_interval` meets its contract: two sides, one behind the other.
-use Rattle.std.proofs.Common.{ap, ◌∙◌, ◌+◌, arith, ℤ}
+-- `put_interval` meets its contract: the library's bytes of a side are those of its bits.
+use Rattle.std.proofs.Common.{◌≡◌, ℤ, pos, negsuc, ◌++◌, List, ℕ, length, drop, refl, ap, ap₂, ◌∙◌, arith}
+use Rattle.std.specs.Int.{w32, to_le_bytes}
+use mir.Val.{of_z}
 use Rattle.rational.proofs.Machine.{told}
-use Rattle.columns.specs.Line.{placed}
-use Rattle.columns.proofs.Placed.{placed_then}
-use Rattle.panel.specs.Panel.{bytes_of_side, interval_bytes}
-use Rattle.panel.proofs.Lengths.{side_long}
+use Rattle.panel.specs.Panel.{bits_of, bytes_of_side, interval_bytes}
+use Rattle.panel.proofs.Lengths.{side_long, halves}
 use Rattle.panel.proofs.side_bytes.put_interval.Goals as goal
+
+bytes_are : (z : ℤ) → to_le_bytes w32 (of_z w32 z) ≡ bytes_of_side z
+unfolding bytes_of_side bits_of
+bytes_are (pos n) = refl
+bytes_are (negsuc n) = refl
 
 pub returns : goal.returns
 unfolding interval_bytes
 returns c =
-    let a = c.args in
-    let first = c.put_side.new.out in
-    c.put_side-2.ensures
-    ∙ ap (λ (z : ℤ). placed first (a.at + 4) (bytes_of_side z)) (told a.i.high (omega arith))
-    ∙ placed_then a.out.now a.at 4 (bytes_of_side a.i.low) (bytes_of_side a.i.high) first (side_long a.i.low) (omega arith)
-    (c.put_side.ensures ∙ ap (λ (z : ℤ). placed a.out.now a.at (bytes_of_side z)) (told a.i.low (omega arith)))
+    let i = c.args.i in
+    let low : c.copy_from_slice.new.self ≡ bytes_of_side i.low =
+    c.copy_from_slice.ensures.after ∙ c.to_le_bytes.ensures ∙ rw (told i.low (omega arith)) (bytes_are i.low) in
+    let high : c.copy_from_slice-2.new.self ≡ bytes_of_side i.high =
+    c.copy_from_slice-2.ensures.after ∙ c.to_le_bytes-2.ensures ∙ rw (told i.high (omega arith)) (bytes_are i.high) in
+    halves 4 c.copy_from_slice.new.self (drop 4 c.args.out.now) c.copy_from_slice-2.new.self (ap length low ∙ side_long i.low)
+    ∙ ap₂ (λ (a b : List ℕ). a ++ b) low high
