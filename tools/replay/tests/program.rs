@@ -3,6 +3,7 @@
 
 use std::io::{self, BufRead, BufReader, Read, Write};
 use std::process::{Child, ChildStdin, ChildStdout, Command, Output, Stdio};
+use std::sync::Mutex;
 use std::thread;
 use std::time::Duration;
 
@@ -26,7 +27,11 @@ const CARD: &str = "         1
          1         3         0         2
 ";
 
+/// Held while a program starts: until then it has a copy of every open pipe of this process, of other tests too.
+static STARTING: Mutex<()> = Mutex::new(());
+
 fn start(arguments: &[&str]) -> Child {
+    let _alone = STARTING.lock().unwrap();
     Command::new(env!("CARGO_BIN_EXE_replay"))
         .args(arguments)
         .stdin(Stdio::piped())
@@ -288,7 +293,9 @@ fn answers_each_line_before_the_next_one_comes() {
 fn ends_quietly_when_nobody_reads() {
     let mut child = start(&[]);
     let mut stdin = child.stdin.take().unwrap();
+    let alone = STARTING.lock().unwrap();
     drop(child.stdout.take());
+    drop(alone);
     let sent = (0..100_000).try_for_each(|_| stdin.write_all(CARD.as_bytes()));
     assert_eq!(sent.unwrap_err().kind(), io::ErrorKind::BrokenPipe);
     let mut message = String::new();
