@@ -98,7 +98,7 @@ fn check_ranges(c: Curve) -> Result<(), Reason>
     Ok(())
 }
 
-// Refusal 3: the first rectangle with a low above its high.
+// Refusal 3: the first rectangle with a low above its high. It goes as the one above: with test and reason as closures one loop would need the clauses of both, to save these few lines.
 #[tactic(auto, using(crate::proofs::Refused::first_step), unfolding(crate::specs::Refusals::order_refusal, crate::specs::Refusals::first_failing))]
 fn check_orders(c: Curve) -> Result<(), Reason>
     requires { c.degree ≤ max_degree }
