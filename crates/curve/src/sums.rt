@@ -3,7 +3,7 @@ ghost use Rattle.std.specs.Prelude.{◌≡◌, ◌+◌, IfOk};
 ghost use Rattle.curve.specs.Refusals.{sum_refusal};
 ghost use Rattle.curve.specs.Reason.{refusal_of};
 
-use crate::Reason;
+use crate::{MAX_SUM, Reason, ensure};
 
 // Refusal 17: the sum in its sixteen bits, if it has room there. The sum is one that a call would reach, so it may be any number.
 #[tactic(auto, unfolding(crate::specs::Refusals::sum_refusal))]
@@ -11,7 +11,8 @@ pub fn check_sum(sum: u64) -> Result<u16, Reason>
     ensures refusal { refusal_of result ≡ sum_refusal sum }
     ensures kept { IfOk result (λ kept. kept ≡ sum) }
 {
-    u16::try_from(sum).map_err(|_| Reason::SumOfSteps)
+    ensure(sum <= MAX_SUM, Reason::SumOfSteps)?;
+    Ok(sum as u16)
 }
 
 // The sum of both pieces of a curve with this sum and degree, whatever the degree is.
