@@ -26,30 +26,58 @@ pub enum Reason {
     SumOfSteps,
 }
 
+impl Reason {
+    // The number and the place are told apart, so that the compiler makes no table of jumps of either: in a call that has only some of the reasons
+    // it would put a stop for the others, and the machine code has none (docs/TRUST.md).
+    fn number(self) -> u32
+        ensures { result ≡ (listed self).number }
+    {
+        match self {
+            Reason::Degree => 1,
+            Reason::SideOutOfRange { .. } => 2,
+            Reason::LowAboveHigh { .. } => 3,
+            Reason::Denominator => 4,
+            Reason::Numerator => 5,
+            Reason::HighestDegree => 6,
+            Reason::Limits { .. } => 7,
+            Reason::Depth => 8,
+            Reason::Budget => 9,
+            Reason::CardLength { .. } => 10,
+            Reason::Malformed { .. } => 11,
+            Reason::BufferTooShort { .. } => 12,
+            Reason::Measurement { .. } => 13,
+            Reason::SideBeyondRange { .. } => 14,
+            Reason::Sixteenth => 15,
+            Reason::ListLength { .. } => 16,
+            Reason::SumOfSteps => 17,
+        }
+    }
+
+    fn place(self) -> usize
+        ensures { result ≡ (listed self).place }
+    {
+        match self {
+            Reason::SideOutOfRange { place }
+            | Reason::LowAboveHigh { place }
+            | Reason::Limits { place }
+            | Reason::Measurement { place }
+            | Reason::SideBeyondRange { place } => place,
+            Reason::CardLength { length } | Reason::ListLength { length } => length,
+            Reason::Malformed { offset } => offset,
+            Reason::BufferTooShort { needed } => needed,
+            _ => 0,
+        }
+    }
+}
+
 impl From<Reason> for Refusal {
     ghost from_gives = { λ e r. r ≡ listed e };
 
     fn from(e: Reason) -> Refusal {
-        let (number, place) = match e {
-            Reason::Degree => (1, 0),
-            Reason::SideOutOfRange { place } => (2, place),
-            Reason::LowAboveHigh { place } => (3, place),
-            Reason::Denominator => (4, 0),
-            Reason::Numerator => (5, 0),
-            Reason::HighestDegree => (6, 0),
-            Reason::Limits { place } => (7, place),
-            Reason::Depth => (8, 0),
-            Reason::Budget => (9, 0),
-            Reason::CardLength { length } => (10, length),
-            Reason::Malformed { offset } => (11, offset),
-            Reason::BufferTooShort { needed } => (12, needed),
-            Reason::Measurement { place } => (13, place),
-            Reason::SideBeyondRange { place } => (14, place),
-            Reason::Sixteenth => (15, 0),
-            Reason::ListLength { length } => (16, length),
-            Reason::SumOfSteps => (17, 0),
-        };
-        Refusal { number, place }
+        Refusal {
+            number: e.number(),
+            place: e.place(),
+        }
     }
 }
 

@@ -25,12 +25,13 @@ impl Piece {
     ghost use Rattle.curve.specs.Calls.{bounded};
     ghost use Rattle.search.specs.Piece.{AreHalves};
 
-    // The least rectangle that holds its control points. Not in line, so that a copy of the curve takes stack once and not at each depth of a walk.
+    // The least rectangle that holds its control points. A piece is accepted, so neither this nor a cut is ever refused; `unwrap` would leave a stop in the machine code, which has none (docs/TRUST.md).
+    // Not in line, so that a copy of the curve takes stack once and not at each depth of a walk.
     #[inline(never)]
     pub fn span(&self) -> Rect
         ensures { result ≡ (bounded self.now.curve).rect }
     {
-        curve::try_bounds(self.curve).unwrap()
+        curve::try_bounds(self.curve).unwrap_or(curve::zero_rect())
     }
 
     // Its halves, the left one first, unless it lies at the depth limit. Not in line, so that the cut's table takes stack once and not at each depth of a walk.
@@ -39,7 +40,10 @@ impl Piece {
         ensures { MatchOption result (self.now.below ≡ 0) (λ halves. AreHalves self.now halves.0 halves.1) }
     {
         let below = self.below.checked_sub(1)?;
-        let (left, right) = curve::try_subdivide(self.curve, 1, 2).unwrap().value;
+        let Ok(pieces) = curve::try_subdivide(self.curve, 1, 2) else {
+            return None;
+        };
+        let (left, right) = pieces.value;
         let depth = self.depth + 1;
         let index = self.index * 2;
         let first = Piece {
