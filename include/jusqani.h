@@ -105,16 +105,16 @@ enum jusqani_refusal { JUSQANI_REFUSALS(JUSQANI_REFUSED) };
  * measures them and fails where one takes more. Other processors differ.
  */
 #define JUSQANI_STACK(X) \
-    X(panel, 1032) \
-    X(evaluate, 716) \
-    X(evaluate_sixteenths, 584) \
-    X(subdivide, 1432) \
-    X(elevate, 561) \
-    X(bounds, 440) \
-    X(search, 8040) \
-    X(choose_setting, 7512) \
+    X(panel, 792) \
+    X(evaluate, 440) \
+    X(evaluate_sixteenths, 624) \
+    X(subdivide, 1144) \
+    X(elevate, 569) \
+    X(bounds, 424) \
+    X(search, 7912) \
+    X(choose_setting, 7048) \
     X(enclose, 56) \
-    X(read_card, 728) \
+    X(read_card, 760) \
     X(write_card, 504)
 
 /* The highest degree of a curve, the steps in an ohm, and the most records of a list of settings. */

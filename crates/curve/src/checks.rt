@@ -82,46 +82,39 @@ pub fn check_degree(degree: u32) -> Result<(), Reason>
     ensure(is_from_one_to(degree, MAX_DEGREE), Reason::Degree)
 }
 
-// Refusal 2: the first rectangle with a side out of range. That the degree is one stays a clause: a curve is document 01's record, which may hold any.
-#[tactic(auto, using(crate::proofs::Refused::first_step), unfolding(crate::specs::Refusals::range_refusal, crate::specs::Refusals::first_failing))]
-fn check_ranges(c: Curve) -> Result<(), Reason>
-    requires { c.degree ≤ max_degree }
-    ensures { refusal_of result ≡ range_refusal c }
+// Refusals 2 and 3 in one pass: a side out of range ends it, and the first low above its high is kept for the end. A good rectangle takes one test, `is_good`.
+// That the degree is one stays a clause: a curve is document 01's record, which may hold any.
+#[tactic(auto, using(crate::proofs::Refused::first_step), unfolding(crate::specs::Refusals::range_refusal, crate::specs::Refusals::order_refusal, crate::specs::Refusals::first_failing))]
+fn check_points(c: &Curve) -> Result<(), Reason>
+    requires { c.now.degree ≤ max_degree }
+    ensures { refusal_of result ≡ (range_refusal c.now or_else order_refusal c.now) }
 {
     let n = c.degree as usize;
+    let mut ordered = Ok(());
     for place in 0..=n {
-        ensure(
-            sides_in_range(c.points[place]),
-            Reason::SideOutOfRange { place },
-        )?;
+        let p = c.points[place];
+        if !is_good(p) {
+            ensure(sides_in_range(p), Reason::SideOutOfRange { place })?;
+            ordered = ordered.and(Err(Reason::LowAboveHigh { place }));
+        }
     }
-    Ok(())
+    ordered
 }
 
-// Refusal 3: the first rectangle with a low above its high. It goes as the one above: with test and reason as closures one loop would need the clauses of both, to save these few lines.
-#[tactic(auto, using(crate::proofs::Refused::first_step), unfolding(crate::specs::Refusals::order_refusal, crate::specs::Refusals::first_failing))]
-fn check_orders(c: Curve) -> Result<(), Reason>
-    requires { c.degree ≤ max_degree }
-    ensures { refusal_of result ≡ order_refusal c }
+// Refusals 1 to 3 of a curve that is lent: by value each check, put in line, copied it.
+#[tactic(auto, unfolding(crate::specs::Refusals::curve_refusal))]
+pub fn check_lent(c: &Curve) -> Result<(), Reason>
+    ensures { refusal_of result ≡ curve_refusal c.now }
 {
-    let n = c.degree as usize;
-    for place in 0..=n {
-        ensure(
-            sides_ordered(c.points[place]),
-            Reason::LowAboveHigh { place },
-        )?;
-    }
-    Ok(())
+    check_degree(c.degree)?;
+    check_points(c)
 }
 
 // Refusals 1 to 3.
-#[tactic(auto, unfolding(crate::specs::Refusals::curve_refusal))]
 pub fn check_curve(c: Curve) -> Result<(), Reason>
     ensures { refusal_of result ≡ curve_refusal c }
 {
-    check_degree(c.degree)?;
-    check_ranges(c)?;
-    check_orders(c)
+    check_lent(&c)
 }
 
 // Refusals 4 and 5. The two numbers stay apart here and in the calls, as document 01 has them.

@@ -9,10 +9,10 @@ use crate::zeros::zero_rect;
 use crate::{Curve, PLACES, Rect, Rounded};
 
 // The first and the last control point stay and leave no remainder, since the absent neighbour has factor 0. The degree's range stays a clause: a curve's record may hold any.
-pub fn elevated_points(c: Curve) -> Rounded<[Rect; PLACES]>
-    requires ready { Ready c }
-    requires degree_lt_max_degree { c.degree < max_degree }
-    ensures { (result.value ≡ points_of (c.degree + 1) (elevated_point c.degree (point c))) × (result.exact ≡ elevation_exact c) }
+pub fn elevated_points(c: &Curve) -> Rounded<[Rect; PLACES]>
+    requires ready { Ready c.now }
+    requires degree_lt_max_degree { c.now.degree < max_degree }
+    ensures { (result.value ≡ points_of (c.now.degree + 1) (elevated_point c.now.degree (point c.now))) × (result.exact ≡ elevation_exact c.now) }
 {
     let d = c.degree + 1;
     // The part of the factor 1, of which the others are multiples.

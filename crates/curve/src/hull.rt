@@ -26,9 +26,9 @@ fn hull_rect(p: Rect, q: Rect) -> Rect
 }
 
 #[tactic(auto, unfolding(crate::specs::Curve::bounds_of, crate::specs::Curve::hull_to))]
-pub fn hull_of(c: Curve) -> Rect
-    requires { Ready c }
-    ensures { result ≡ bounds_of c }
+pub fn hull_of(c: &Curve) -> Rect
+    requires { Ready c.now }
+    ensures { result ≡ bounds_of c.now }
 {
     let n = c.degree as usize;
     let mut held = c.points[0];

@@ -22,13 +22,13 @@ use display::ohms_of;
 use elevating::elevated_points;
 use hull::hull_of;
 use sums::{elevated_sum, piece_sum};
-use table::{points_of, rect_at, sides_of, table_of};
+use table::{SIDES, points_of, rect_at, table_of, take_sides};
 
 // Why a call is refused, and the result of a test.
 pub use reason::{Reason, ensure};
 
-// The check of a degree by itself, refusal 1, and of a curve by itself, refusals 1 to 3.
-pub use checks::{check_curve, check_degree};
+// The check of a degree by itself, refusal 1, and of a curve by itself, refusals 1 to 3, by value and lent.
+pub use checks::{check_curve, check_degree, check_lent};
 
 // Whether a number is from 1 to a largest one.
 pub use checks::is_from_one_to;
@@ -173,24 +173,25 @@ pub fn subdivide(c: Curve, num: u32, den: u32) -> Subdivision
 pub fn try_subdivide(c: Curve, num: u32, den: u32) -> Result<Rounded<(Curve, Curve)>, Reason>
     ensures { as_subdivision result ≡ subdivided c num den }
 {
-    let sides = sides_of(c)?;
+    let mut rest = [0; SIDES];
+    take_sides(&mut rest, c)?;
     let degree = c.degree;
     check_parameter(num, den)?;
     let sum = check_sum(piece_sum(c.sum, degree))?;
-    let table = table_of(sides, degree as usize, num, den);
+    let start = table_of(&mut rest, degree as usize, num, den);
     let left = Curve {
         degree,
         sum,
-        points: points_of(&table.left),
+        points: points_of(&start.value),
     };
     let right = Curve {
         degree,
         sum,
-        points: points_of(&table.right),
+        points: points_of(&rest),
     };
     Ok(Rounded {
         value: (left, right),
-        exact: table.exact,
+        exact: start.exact,
     })
 }
 
@@ -206,14 +207,15 @@ pub fn evaluate(c: Curve, num: u32, den: u32) -> Evaluation
 pub fn try_evaluate(c: Curve, num: u32, den: u32) -> Result<Reading, Reason>
     ensures { as_evaluation result ≡ evaluated c num den }
 {
-    let sides = sides_of(c)?;
+    let mut rest = [0; SIDES];
+    take_sides(&mut rest, c)?;
     check_parameter(num, den)?;
-    let table = table_of(sides, c.degree as usize, num, den);
-    let load = rect_at(&table.right, 0);
+    let start = table_of(&mut rest, c.degree as usize, num, den);
+    let load = rect_at(&rest, 0);
     Ok(Reading {
         load,
         ohms: ohms_of(load),
-        exact: table.exact,
+        exact: start.exact,
     })
 }
 
@@ -229,10 +231,10 @@ pub fn elevate(c: Curve) -> Elevation
 pub fn try_elevate(c: Curve) -> Result<Rounded<Curve>, Reason>
     ensures { as_elevation result ≡ elevated c }
 {
-    check_curve(c)?;
+    check_lent(&c)?;
     check_raising(c.degree)?;
     let sum = check_sum(elevated_sum(c.sum))?;
-    let raised = elevated_points(c);
+    let raised = elevated_points(&c);
     let points = raised.value;
     Ok(Rounded {
         value: Curve {
@@ -256,6 +258,6 @@ pub fn bounds(c: Curve) -> BoundingRect
 pub fn try_bounds(c: Curve) -> Result<Rect, Reason>
     ensures { as_bounding_rect result ≡ bounded c }
 {
-    check_curve(c)?;
-    Ok(hull_of(c))
+    check_lent(&c)?;
+    Ok(hull_of(&c))
 }

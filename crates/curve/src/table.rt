@@ -1,6 +1,6 @@
 // De Casteljau's table of a curve, made in place on its sides, from which the load, both pieces and their exact flag are read.
 // The sides stand one after the other, four for each control point, so that the compiler maps the four of a control point at once.
-ghost use Rattle.std.specs.Prelude.{◌≡◌, ℕ, ◌-◌, ◌≤◌, ◌<◌, IfOk};
+ghost use Rattle.std.specs.Prelude.{◌≡◌, ℕ, ◌-◌, ◌≤◌, ◌<◌, OnOk};
 ghost use Rattle.curve.specs.Limits.{max_degree, places};
 ghost use Rattle.curve.specs.Curve.{points_of};
 ghost use Rattle.curve.specs.Refusals.{curve_refusal};
@@ -8,9 +8,9 @@ ghost use Rattle.curve.specs.Reason.{refusal_of};
 ghost use Rattle.curve.specs.Inner.{Held, Factors, Stored, Taken, Begun, Staged, Tabled, placed};
 
 use crate::affine::Weights;
-use crate::checks::is_good;
+use crate::checks::{check_lent, is_good};
 use crate::zeros::zero_rect;
-use crate::{Curve, Interval, PLACES, Reason, Rect, check_curve, check_degree};
+use crate::{Curve, Interval, PLACES, Reason, Rect, Rounded, check_degree};
 
 // The sides of a rectangle, and of all places of a curve's record.
 const RECT_SIDES: usize = 4;
@@ -60,23 +60,23 @@ pub fn points_of(sides: &[i32; SIDES]) -> [Rect; PLACES]
     points
 }
 
-// The sides of a curve that is accepted, copied and tested in one pass. Which refusal applies is looked for only where a test fails.
-// In line, as the table is, so that the arrays are worked on where they stand and not copied from call to call.
+// Copies the sides of a curve that is accepted, and tests them in the same pass. Which refusal applies is looked for only where a test fails.
+// They are lent, and in line, so that a call has one array of them: as a result's value they were copied twice (docs/DECISIONS.md).
 #[inline(always)]
-pub fn sides_of(c: Curve) -> Result<[i32; SIDES], Reason>
+pub fn take_sides(sides: &mut [i32; SIDES], c: Curve) -> Result<(), Reason>
     ensures refusal { refusal_of result ≡ curve_refusal c }
-    ensures taken { IfOk result (λ l. Taken c l) }
+    ensures taken { OnOk result (Taken c sides.new) }
 {
     check_degree(c.degree)?;
-    let mut sides = [0; SIDES];
+    *sides = [0; SIDES];
     for k in 0..=c.degree as usize {
         let p = c.points[k];
         if !is_good(p) {
-            check_curve(c)?;
+            check_lent(&c)?;
         }
-        store_rect(&mut sides, k, p);
+        store_rect(sides, k, p);
     }
-    Ok(sides)
+    Ok(())
 }
 
 // One stage in place: each of the first m rectangles becomes the map of itself and the next. Every second side is a high one, which is rounded up. It answers whether no map left a remainder.
@@ -95,29 +95,21 @@ fn stage(sides: &mut [i32; SIDES], m: usize, w: Weights) -> bool
     exact
 }
 
-// The sides of the left and of the right piece, and whether no map left a remainder. As a `Rounded` pair its two parts would have no names.
-#[derive(Clone, Copy)]
-pub struct Table {
-    pub left: [i32; SIDES],
-    pub right: [i32; SIDES],
-    pub exact: bool,
-}
-
 // The table of degree n at num/den: what its stages leave in place is the right piece, and the first rectangle of each is the left one.
 // The two factors, and all that depends on them alone, are worked out once, before the stages begin.
 #[inline(always)]
-pub fn table_of(mut right: [i32; SIDES], n: usize, num: u32, den: u32) -> Table
-    requires begun { Begun n right }
+pub fn table_of(right: &mut [i32; SIDES], n: usize, num: u32, den: u32) -> Rounded<[i32; SIDES]>
+    requires begun { Begun n right.old }
     requires factors { Factors (den - num) num den }
-    ensures { Tabled (den - num) num den n (placed right) result.left result.right result.exact }
+    ensures { Tabled (den - num) num den n (placed right.old) result.value right.new result.exact }
 {
     let w = Weights::new(den - num, num);
     let mut left = [0; SIDES];
-    store_rect(&mut left, 0, rect_at(&right, 0));
+    store_rect(&mut left, 0, rect_at(right, 0));
     let mut exact = true;
     for j in 0..n {
-        exact &= stage(&mut right, n - j, w);
-        store_rect(&mut left, j + 1, rect_at(&right, 0));
+        exact &= stage(right, n - j, w);
+        store_rect(&mut left, j + 1, rect_at(right, 0));
     }
-    Table { left, right, exact }
+    Rounded { value: left, exact }
 }

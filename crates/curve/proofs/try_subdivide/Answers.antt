@@ -12,12 +12,12 @@ use Rattle.curve.proofs.Answers.{subdivision, subdivided-accepted}
 use Rattle.curve.proofs.Stages.{taken_begun, table-left, table-right, table-flag}
 use Rattle.curve.proofs.try_subdivide.Goals as goal
 
-pub table_of-table-requires-clause-begun : goal.table_of-table-requires-clause-begun
-table_of-table-requires-clause-begun c =
-    taken_begun c.args.c c.in_ok-sides.sides (sym c.in_ok-sides.ensures.refusal) c.in_ok-sides.ensures.taken
+pub table_of-start-requires-clause-begun : goal.table_of-start-requires-clause-begun
+table_of-start-requires-clause-begun c =
+    taken_begun c.args.c c.take_sides.new.sides (sym c.in_ok-take_sides.ensures.refusal) c.in_ok-take_sides.ensures.taken
 
-pub table_of-table-requires-clause-factors : goal.table_of-table-requires-clause-factors
-table_of-table-requires-clause-factors c =
+pub table_of-start-requires-clause-factors : goal.table_of-start-requires-clause-factors
+table_of-start-requires-clause-factors c =
     (parameter_facts c.args.num c.args.den (sym c.in_ok-check_parameter.ensures)).factors
 
 -- an answer with these control points of its pieces
@@ -29,16 +29,16 @@ unfolding left_of right_of
 returns c =
     let a = c.args in
     let n = a.c.degree in
-    let l = c.in_ok-sides.sides in
-    let t = c.table_of-table in
-    let left = t.result.left in
-    let right = t.result.right in
+    let l = c.take_sides.new.sides in
+    let t = c.table_of-start in
+    let left = t.result.value in
+    let right = t.new.right in
     let b = t.result.exact in
     let sum = c.in_ok-sum.ensures.kept ∙ c.piece_sum.ensures in
-    let ok = sym c.in_ok-sides.ensures.refusal in
+    let ok = sym c.in_ok-take_sides.ensures.refusal in
     let at = sym c.in_ok-check_parameter.ensures in
     let room = subst AcceptedSum c.piece_sum.ensures (sym c.in_ok-sum.ensures.refusal) in
-    let taken = c.in_ok-sides.ensures.taken in
+    let taken = c.in_ok-take_sides.ensures.taken in
     let few = (accepted_facts a.c ok).few in
     let start = (left_of a.c a.num a.den).points in
     let end = (right_of a.c a.num a.den).points in

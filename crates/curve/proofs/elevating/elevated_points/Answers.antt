@@ -19,7 +19,7 @@ more k f positive room =
 
 pub loop-k-init : goal.loop-k-init
 loop-k-init c =
-    let a = c.args.c in
+    let a = c.args.c.now in
     let f = elevated_exact a.degree (point a) in
     record {
       filled = rw (c.zero_rect-points.ensures, elevated-first a.degree (point a)) (points_first (elevated_point a.degree (point a)));
@@ -29,14 +29,14 @@ loop-k-init c =
 pub with_part-w-requires-clause-part : goal.with_part-w-requires-clause-part
 with_part-w-requires-clause-part c =
     let few = c.requires.degree_lt_max_degree in
-    let d = c.args.c.degree + 1 in
+    let d = c.args.c.now.degree + 1 in
     rw (c.div_ceil-unit.ensures, c.from.ensures) (part-total _ _ d _ (omega arith) (part_times _ d (omega arith) (omega arith)))
 
 pub loop-k-preserved : goal.loop-k-preserved
 unfolding elevated_point elevated_exact
 loop-k-preserved c =
     let l = c.loop-k in
-    let a = c.args.c in
+    let a = c.args.c.now in
     let n = a.degree in
     let w = c.with_part-w in
     let total : l.k + (n + 1 - l.k) ≡ n + 1 = omega arith in
@@ -54,7 +54,7 @@ pub returns : goal.returns
 unfolding elevation_exact
 returns c =
     let l = c.loop-k in
-    let a = c.args.c in
+    let a = c.args.c.now in
     let n = a.degree in
     let f = elevated_exact n (point a) in
     let done : l.k ≡ n + 1 = omega arith in

@@ -27,7 +27,7 @@ loop-j-init c =
     let a = c.args in
     let first = stored-as c.rect_at.ensures c.store_rect.ensures in
     record {
-      after = after-start (a.den - a.num) a.num a.den a.n (placed a.right) (replicate all_sides (pos 0)) c.store_rect.new.sides a.right (λ k. refl) c.requires.begun.past zeros_placed first;
+      after = after-start (a.den - a.num) a.num a.den a.n (placed a.right.now) (replicate all_sides (pos 0)) c.store_rect.new.sides a.right.now (λ k. refl) c.requires.begun.past zeros_placed first;
     }
 
 -- what the next stage maps is in range
@@ -35,8 +35,8 @@ pub stage-exact-requires-clause-by_index : goal.stage-exact-requires-clause-by_i
 stage-exact-requires-clause-by_index c k h =
     let a = c.args in
     let l = c.loop-j in
-    subst Held (sym (after-entry (a.den - a.num) a.num a.den a.n (placed a.right) l.j l.left l.right l.exact l.invariant.after (omega arith) k (omega arith)))
-    (table-held (a.den - a.num) a.num a.den (placed a.right) a.n c.requires.factors c.requires.begun.held l.j k (omega arith))
+    subst Held (sym (after-entry (a.den - a.num) a.num a.den a.n (placed a.right.now) l.j l.left l.right l.exact l.invariant.after (omega arith) k (omega arith)))
+    (table-held (a.den - a.num) a.num a.den (placed a.right.now) a.n c.requires.factors c.requires.begun.held l.j k (omega arith))
 
 pub loop-j-preserved : goal.loop-j-preserved
 loop-j-preserved c =
@@ -46,7 +46,7 @@ loop-j-preserved c =
     let next = stored-as c.rect_at-in-loop-j.ensures c.store_rect-in-loop-j.ensures in
     record {
       after =
-          after_next (a.den - a.num) a.num a.den a.n (placed a.right) l.j l.left l.right l.exact l.invariant.after (omega arith)
+          after_next (a.den - a.num) a.num a.den a.n (placed a.right.now) l.j l.left l.right l.exact l.invariant.after (omega arith)
           c.store_rect-in-loop-j.new.sides g.new.sides g.result (staged_by c.new-w.result c.requires.factors c.new-w.ensures.factor c.new-w.ensures.divisor g.ensures) next;
     }
 
@@ -54,4 +54,4 @@ pub returns : goal.returns
 returns c =
     let a = c.args in
     let l = c.loop-j in
-    after-end (a.den - a.num) a.num a.den a.n (placed a.right) l.j l.left l.right l.exact l.invariant.after (omega arith)
+    after-end (a.den - a.num) a.num a.den a.n (placed a.right.now) l.j l.left l.right l.exact l.invariant.after (omega arith)

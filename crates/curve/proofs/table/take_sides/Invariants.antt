@@ -6,7 +6,7 @@ use Rattle.curve.specs.Rect.{zero_rect}
 use Rattle.curve.specs.Curve.{point}
 use Rattle.curve.specs.Inner.{placed}
 use Rattle.curve.proofs.Accepted.{good_at}
-use Rattle.curve.proofs.table.sides_of.Given as goal
+use Rattle.curve.proofs.table.take_sides.Given as goal
 
 abbrev pub invariant-loop-k : goal.invariant-loop-k
 invariant-loop-k l = record {

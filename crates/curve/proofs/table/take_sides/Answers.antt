@@ -1,40 +1,18 @@
--- `sides_of` meets its contract: where a test fails the curve is refused, and where none fails its points stand in their places.
-use Rattle.std.proofs.Common.{◌≡◌, ℕ, ◌+◌, ◌<◌, true, ◌&&◌, sym, ap, ◌∙◌, refl, below_more, arith}
+-- `take_sides` meets its contract: where a test fails the curve is refused, and where none fails its points stand in their places.
+use Rattle.std.proofs.Common.{◌≡◌, ℕ, ◌+◌, ◌<◌, true, ◌&&◌, sym, ap, ◌∙◌, below_more, arith}
 use Rattle.std.proofs.lemmas.Result.{err_from_is_err_and}
 use lib.Dec.{leb}
 use Rattle.curve.specs.declared.Refusal.{Refusal}
-use Rattle.curve.specs.declared.reason.Reason.{Reason}
-use Rattle.curve.specs.declared.reason.Reason.TheVariants as kind
 use Rattle.curve.specs.Limits.{max_degree}
 use Rattle.curve.specs.Curve.{point}
 use Rattle.curve.specs.Refusals.{◌or_else◌, range_refusal, order_refusal, curve_refusal}
-use Rattle.curve.specs.Reason.{listed}
 use Rattle.curve.specs.Inner.{placed}
+use Rattle.curve.proofs.Listed.{listed_first}
 use Rattle.curve.proofs.Tests.{true_of, unless_holds}
 use Rattle.curve.proofs.Accepted.{good_at, tests_facts, facts_good, facts_accepted, accepted_facts}
 use Rattle.curve.proofs.Placed.{zeros_placed}
-use Rattle.curve.proofs.table.sides_of.Goals as goal
-use Rattle.curve.proofs.table.sides_of.Goals.{After-store_rect, then-not-is_good+in_ok-check_curve, else-not-is_good}
-
--- a reason is a refusal
-listed_first : (e : Reason) (r : Refusal) → (listed e or_else r) ≡ listed e
-listed_first kind.Degree r = refl
-listed_first (kind.SideOutOfRange _) r = refl
-listed_first (kind.LowAboveHigh _) r = refl
-listed_first kind.Denominator r = refl
-listed_first kind.Numerator r = refl
-listed_first kind.HighestDegree r = refl
-listed_first (kind.Limits _) r = refl
-listed_first kind.Depth r = refl
-listed_first kind.Budget r = refl
-listed_first (kind.CardLength _) r = refl
-listed_first (kind.Malformed _) r = refl
-listed_first (kind.BufferTooShort _) r = refl
-listed_first (kind.Measurement _) r = refl
-listed_first (kind.SideBeyondRange _) r = refl
-listed_first kind.Sixteenth r = refl
-listed_first (kind.ListLength _) r = refl
-listed_first kind.SumOfSteps r = refl
+use Rattle.curve.proofs.table.take_sides.Goals as goal
+use Rattle.curve.proofs.table.take_sides.Goals.{After-store_rect, then-not-is_good+in_ok-check_lent, else-not-is_good}
 
 pub returns-in_err-check_degree-clause-refusal : goal.returns-in_err-check_degree-clause-refusal
 unfolding curve_refusal
@@ -51,7 +29,7 @@ loop-k-init c = record { taken = λ i h. absurd (omega arith); past = λ i _. ze
 good_here : (c : After-store_rect) → good_at c.args.c c.loop-k.k ≡ true
 good_here c =
     elim c.if-not-is_good.branch [
-      | then-not-is_good+in_ok-check_curve w ↦ facts_good (accepted_facts c.args.c (sym w.in_ok-check_curve.ensures)) c.loop-k.k c.loop-k-test.true
+      | then-not-is_good+in_ok-check_lent w ↦ facts_good (accepted_facts c.args.c (sym w.in_ok-check_lent.ensures)) c.loop-k.k c.loop-k-test.true
       | else-not-is_good w ↦ sym c.is_good.ensures ∙ w.if-not-is_good.false
     ]
 
