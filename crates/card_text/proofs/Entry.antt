@@ -17,7 +17,7 @@ use Rattle.columns.specs.Column.{column, read_at}
 use Rattle.columns.specs.Line.{newline, columns, line, line_length, all_fit}
 use Rattle.columns.proofs.Lines.{columns_long, columns-at}
 use Rattle.columns.proofs.Promises.{column_is_ten, column_reads, read_is_written}
-use Rattle.curve.specs.Refusals.{none}
+use Rattle.curve.specs.Refusals.{refusal, none}
 use Rattle.card_text.specs.Reading.{well_formed, number_of, number_at, column_refusal, line_end_refusal}
 use Rattle.card_text.proofs.Accepting.{unless-zero, unless-none}
 use Rattle.card_text.proofs.Stands.{Stands, stands_none, stands_both, stands_second}
@@ -26,6 +26,10 @@ module _ (bytes : List ℕ) (at : ℕ) where
   pub entry-number : (z : ℤ) → read_at bytes at ≡ Some z → (none ≡ column_refusal bytes at) × (z ≡ number_at bytes at)
   unfolding column_refusal
   entry-number z e = rw e (refl, refl)
+
+  pub entry_malformed : read_at bytes at ≡ None → (refusal 11 at ≡ column_refusal bytes at) × (pos 0 ≡ number_at bytes at)
+  unfolding column_refusal
+  entry_malformed e = rw e (refl, refl)
 
   -- an accepted column is its number's text
   pub entry_stands : (column_refusal bytes at).number ≡ 0 → Stands bytes at 10 (column (number_at bytes at))

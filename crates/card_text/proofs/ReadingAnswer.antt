@@ -12,7 +12,7 @@ use Rattle.curve.specs.Limits.{max_degree}
 use Rattle.curve.specs.Curve.{zero_curve}
 use Rattle.curve.specs.Refusals.{◌or_else◌, degree_refusal, range_refusal, order_refusal, curve_refusal, Accepted}
 use Rattle.curve.proofs.Accepted.{number-accepted}
-use Rattle.curve.proofs.Refused.{or_second}
+use Rattle.curve.proofs.Refused.{or_first, or_second}
 use Rattle.curve.proofs.Tests.{or_split}
 use Rattle.card_text.specs.declared.CardRead.{CardRead}
 use Rattle.card_text.specs.Card.{card_length}
@@ -50,6 +50,10 @@ module _ (bytes : List ℕ) where
   -- the whole refusal, where the first line is refused and where it is not
   abbrev later_lines : Refusal
   later_lines = rows_refusal bytes ((decoded bytes).degree + 1) or_else range_refusal (decoded bytes) or_else order_refusal (decoded bytes)
+
+  pub card_first : ((header_refusal bytes).number ≡ 0 → ⊥) → card_refusal bytes ≡ header_refusal bytes
+  unfolding card_refusal
+  card_first h = sym (or_first (header_refusal bytes) later_lines h)
 
   pub card_later : (header_refusal bytes).number ≡ 0 → card_refusal bytes ≡ (rows_refusal bytes ((decoded bytes).degree + 1) or_else curve_refusal (decoded bytes))
   unfolding card_refusal curve_refusal

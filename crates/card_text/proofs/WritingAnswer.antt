@@ -7,18 +7,19 @@ use Prim.Native.Nat.{ℕ, ◌+◌, ◌≤◌}
 use native.Mathlib.Omega.{arith}
 use lib.Dec.{leb, eqb}
 use lib.ListN.{length, drop}
-use borrow.Author.Tests.{le-leb, eq-eqb, ne_eqb}
+use borrow.Author.Tests.{le-leb, leb-true, eq-eqb, ne_eqb}
 use Rattle.columns.specs.Line.{placed}
 use Rattle.columns.proofs.Placed.{placed-front, placed_then}
 use Rattle.curve.specs.declared.Curve.{Curve}
 use Rattle.curve.specs.declared.Refusal.{Refusal}
 use Rattle.curve.specs.Curve.{point}
 use Rattle.curve.specs.Refusals.{none, curve_refusal, Accepted, unless_at, unless_refused}
-use Rattle.curve.proofs.Accepted.{accepted_facts}
+use Rattle.curve.proofs.Tests.{or_split}
+use Rattle.curve.proofs.Accepted.{number-accepted, accepted_facts}
 use Rattle.card_text.specs.declared.CardWritten.{CardWritten}
 use Rattle.card_text.specs.Card.{header, rows, card_of, header_length, card_length}
 use Rattle.card_text.specs.Writing.{writing_refusal, write_card, bytes_after}
-use Rattle.card_text.proofs.Accepting.{or_none, unless-none}
+use Rattle.card_text.proofs.Accepting.{or_none, unless-zero, unless-none}
 use Rattle.card_text.proofs.Fitting.{header_long, card_long}
 
 module _ (c : Curve) (size : ℕ) where
@@ -31,6 +32,13 @@ module _ (c : Curve) (size : ℕ) where
   writing-accepted ok h =
       or_none (curve_refusal c) lack ok
       (unless-none (leb (card_length c.degree) size) 12 (card_length c.degree) (le-leb (card_length c.degree) size h))
+
+  -- number 0 says that the curve is accepted and that there is room
+  pub writing-zero : (writing_refusal c size).number ≡ 0 → Accepted c × (card_length c.degree ≤ size)
+  unfolding writing_refusal
+  writing-zero h =
+      let (first, second) = or_split (curve_refusal c) lack h in
+      (number-accepted c first, leb-true (card_length c.degree) size (unless-zero (leb (card_length c.degree) size) 11 (card_length c.degree) second))
 
 -- ---- the answer, by the test of the refusal's number
 

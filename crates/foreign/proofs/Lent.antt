@@ -1,12 +1,12 @@
 -- Numbers stored in front of a lent list.
 -- Assumes nothing.
 use mathlib.Core.Path.{◌≡◌, sym, ap, ap₂, ◌∙◌}
-use mathlib.Core.List.{List, ◌++◌}
-use Prim.Native.Nat.{ℕ, ◌+◌, ◌≤◌}
+use mathlib.Core.List.{List, [], ◌∷◌, ◌++◌}
+use Prim.Native.Nat.{ℕ, ◌+◌, ◌≤◌, ◌<◌}
 use native.Mathlib.Nat.{zero-add}
 use native.Mathlib.Omega.{arith}
-use lib.ListN.{length, drop, length-append, length-drop}
-use lib.Seq.{sets, sets-eq, take_at, drop_at, drop-drop}
+use lib.ListN.{length, get_or, drop, length-append, length-drop}
+use lib.Seq.{sets, sets-eq, take_at, drop_at, drop-drop, drop-cons}
 
 module _ {A : Type 0} where
   -- numbers in front of a list
@@ -35,3 +35,7 @@ module _ {A : Type 0} where
       ∙ ap (λ (n : ℕ). drop n out) (sym (length-append xs ys)) in
       sets-eq ys (front xs out) m (omega arith)
       ∙ ap₂ (λ (a b : List A). a ++ ys ++ b) (take_at xs rest m long) past
+
+  -- the first two numbers of a list, in front of the same
+  pub front_same : (out : List A) (d : A) → 1 < length out → out ≡ front (get_or out 0 d ∷ get_or out 1 d ∷ []) out
+  front_same out d some = drop-cons out 0 d (omega arith) ∙ ap (λ (l : List A). get_or out 0 d ∷ l) (drop-cons out 1 d some)

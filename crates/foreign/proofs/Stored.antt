@@ -11,6 +11,9 @@ use Rattle.foreign.proofs.Lent.{front, front-next}
 abbrev pub stored : Curve → ℕ → List ℤ
 stored c k = pos c.degree ∷ pos c.sum ∷ sides_to k (point c)
 
+pub stored-length : (c : Curve) (k : ℕ) → length (stored c k) ≡ 2 + 4 * k
+stored-length c k = let e = sides-length (point c) k in omega arith
+
 -- and those of one rectangle more
 pub stored-next : (c : Curve) (k : ℕ) (out : List ℤ) → 2 + 4 * k + 4 ≤ length out →
     sets (front (stored c k) out) (2 + 4 * k) (sides (point c k)) ≡ front (stored c (k + 1)) out

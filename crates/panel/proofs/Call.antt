@@ -98,3 +98,7 @@ module _ (card : List ℕ) (num den : ℕ) where
 
     pub written : r.number ≡ 0 → load_bytes (panel_load card num den) ++ drop load_length out ≡ panel_bytes card num den out
     written zero = ap bytes_if (sym (eq-eqb r.number 0 zero)) ∙ to_bytes
+
+    -- what a refused call answers and leaves
+    pub refused : (r.number ≡ 0 → ⊥) → (r.number ≡ (panel_refusal card num den (length out)).number) × (out ≡ panel_bytes card num den out)
+    refused some = (ap (λ (x : Refusal). x.number) e, kept some)

@@ -4,7 +4,7 @@ use mathlib.Core.Path.{◌≡◌, refl, sym, ap, ◌∙◌, subst}
 use mathlib.Core.Bool.{Bool, true, false, false≢true}
 use Prim.Native.Nat.{ℕ, zero, suc, ◌+◌, ◌*◌}
 use lib.Dec.{T, eqb}
-use borrow.Author.Tests.{eqb-true, eqb-false, ne_eqb}
+use borrow.Author.Tests.{eqb-true, eqb-false, eq-eqb, ne_eqb}
 use Rattle.curve.specs.declared.Rect.{Rect}
 use Rattle.curve.specs.declared.Curve.{Curve}
 use Rattle.curve.specs.Calls.{bounded, subdivided}
@@ -90,6 +90,9 @@ module _ (box : Rect) where
     pub visit_ended : (piece : Curve) (v : Verdict) → goes_on v ≡ false → visit_at box budget piece v ≡ Ended
     unfolding visit_at
     visit_ended piece v e = rw e
+
+    pub visit_exhausted : (piece : Curve) (v : Verdict) → Going v → count_of v ≡ budget → visit_at box budget piece v ≡ Exhausted
+    visit_exhausted piece v g e = visit_is piece v true _ _ g (eq-eqb (count_of v) budget e) refl refl
 
     pub visit_contained : (piece : Curve) (v : Verdict) → Looks budget v → Within piece → visit_at box budget piece v ≡ Contained
     visit_contained piece v l w = visit_is piece v false true _ l.going (ne_eqb (count_of v) budget l.below) w.contained refl
